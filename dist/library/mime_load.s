@@ -1487,56 +1487,60 @@
 	pushq	%r12
 	pushq	%rbx
 	subq	$200, %rsp
-	testq	%rdx, %rdx
+	testl	%edx, %edx
 	je	53f
 	movq	%r9, %r14
 	movq	%r8, %r13
-	movq	%rdx, %r9
-	movq	%rdi, %rbx
+	movl	%edx, %r9d
+	movq	%rdi, %r10
+	movl	%esi, %eax
+	movq	%rax, 192(%rsp)
+	movl	%edx, %eax
+	movq	%rax, 184(%rsp)
 	movl	$256, %eax
-	xorl	%r15d, %r15d
-	movq	%rcx, 24(%rsp)
-	movq	%rdx, 88(%rsp)
-	movq	%rsi, 80(%rsp)
-	movq	%rdi, 96(%rsp)
+	xorl	%ebx, %ebx
+	movq	%rcx, 32(%rsp)
+	movq	%rdi, 16(%rsp)
+	movl	%edx, 12(%rsp)
 5:
-	movl	$0, 19(%rsp)
-	movl	$0, 16(%rsp)
+	movl	$0, 27(%rsp)
+	movl	$0, 24(%rsp)
 	movq	16(%r14), %rdx
 	movb	$1, %r12b
 	cmpq	$12, %rdx
 	jb	57f
-	movq	%r15, %rdi
-	notq	%rdi
-	addq	%r9, %rdi
-	leaq	(%rdi,%rdi,2), %rdi
-	leaq	(%rsi,%rdi,4), %r8
+	movl	%ebx, %esi
+	notl	%esi
+	addl	%r9d, %esi
+	leaq	(%rsi,%rsi,2), %rsi
+	movq	192(%rsp), %rdi
+	leaq	(%rdi,%rsi,4), %r8
 	addq	$-12, %rdx
 	movq	%rdx, 16(%r14)
-	movq	(%rbx), %r10
+	movq	(%r10), %rsi
 	movq	(%r14), %rdx
 	incq	%rdx
 	movq	$-1, %rdi
 	cmovneq	%rdx, %rdi
 	movq	%rdi, (%r14)
-	movq	8(%r10), %rdi
+	movq	8(%rsi), %rdi
 	xorl	%edx, %edx
 	subq	%r8, %rdi
 	jb	58f
 	cmpq	$12, %rdi
 	jb	58f
-	movq	(%r10), %rdi
-	movl	(%rdi,%r8), %edx
+	movq	(%rsi), %rsi
+	movl	(%rsi,%r8), %edx
 	movl	%edx, %ebp
 	bswapl	%ebp
 	cmpl	%ebp, %eax
 	jbe	57f
-	movl	4(%rdi,%r8), %ebx
-	movl	8(%rdi,%r8), %eax
-	shlq	$32, %rbx
-	orq	%rax, %rbx
-	bswapq	%rbx
-	movq	%rbx, %rsi
+	movl	4(%rsi,%r8), %r15d
+	movl	8(%rsi,%r8), %eax
+	shlq	$32, %r15
+	orq	%rax, %r15
+	bswapq	%r15
+	movq	%r15, %rsi
 	shrq	$32, %rsi
 	testl	%edx, %edx
 	je	8f
@@ -1551,9 +1555,8 @@
 	movb	%bpl, (%rdx,%rax)
 	incq	%rax
 	movq	%rax, 8(%rcx)
-	movl	%ebx, %edx
-	movq	96(%rsp), %rbx
-	movq	%rbx, %rdi
+	movq	%r10, %rdi
+	movl	%r15d, %edx
 	movq	%r13, %r8
 	movq	%r14, %r9
 	callq	"mime_load::suffix_tree::read_siblings"
@@ -1561,38 +1564,37 @@
 	jne	56f
 	cmpq	%r12, 8(%r13)
 	je	55f
-	movq	24(%rsp), %rcx
+	movq	32(%rsp), %rcx
 	movq	8(%rcx), %rax
 	testq	%rax, %rax
 	je	7f
 	decq	%rax
 	movq	%rax, 8(%rcx)
 7:
-	movq	88(%rsp), %r9
-	movq	80(%rsp), %rsi
-	incq	%r15
+	movl	12(%rsp), %r9d
+	movq	16(%rsp), %r10
+	incq	%rbx
 	movl	%ebp, %eax
-	cmpq	%r9, %r15
+	cmpq	184(%rsp), %rbx
 	jne	5b
 	jmp	53f
 	.p2align	4
 8:
-	movq	96(%rsp), %rax
-	movq	(%rax), %rdx
+	movq	(%r10), %rdx
 	pxor	%xmm0, %xmm0
+	movdqa	%xmm0, 128(%rsp)
 	movdqa	%xmm0, 144(%rsp)
-	movdqa	%xmm0, 160(%rsp)
-	movl	$0, 64(%rsp)
-	movl	$0, 67(%rsp)
-	movl	%ebx, %ebp
+	movl	$0, 72(%rsp)
+	movl	$0, 75(%rsp)
+	movl	%r15d, %ebp
 	movq	8(%rdx), %rax
 	subq	%rbp, %rax
 	jbe	57f
-	movq	%rsi, 72(%rsp)
+	movq	%rsi, 80(%rsp)
 	addq	(%rdx), %rbp
 	cmpq	$32, %rax
-	movq	%r13, 192(%rsp)
-	movq	%rbp, 184(%rsp)
+	movq	%r13, 176(%rsp)
+	movq	%rbp, 168(%rsp)
 	jae	10f
 9:
 	cmpq	$256, %rax
@@ -1609,7 +1611,7 @@
 	addq	8(%r14), %rcx
 	movq	$-1, %rax
 	cmovaeq	%rcx, %rax
-	movq	24(%rsp), %rcx
+	movq	32(%rsp), %rcx
 	jmp	12f
 10:
 	movdqu	(%rbp), %xmm1
@@ -1635,137 +1637,138 @@
 	cmovaeq	%rsi, %rax
 12:
 	movq	%rax, 8(%r14)
-	movq	(%rcx), %rbp
-	movq	8(%rcx), %r13
-	cmpq	$17, %r13
-	movq	%rdx, 176(%rsp)
+	movq	(%rcx), %r13
+	movq	8(%rcx), %rbp
+	cmpq	$17, %rbp
+	movq	%rdx, 160(%rsp)
 	jae	13f
 	pxor	%xmm0, %xmm0
-	movdqa	%xmm0, 112(%rsp)
-	leaq	112(%rsp), %rdi
-	movq	%rbp, %rsi
-	movq	%r13, %rdx
+	movdqa	%xmm0, 96(%rsp)
+	leaq	96(%rsp), %rdi
+	movq	%r13, %rsi
+	movq	%rbp, %rdx
 	callq	memcpy@PLT
 	xorl	%ecx, %ecx
 	jmp	26f
 13:
-	testq	%r13, %r13
+	testq	%rbp, %rbp
 	js	62f
 	movl	$1, %esi
-	movq	%r13, %rdi
+	movq	%rbp, %rdi
 	callq	rattle_alloc@PLT
 	testb	$1, %al
 	je	62f
-	movq	%rdx, 112(%rsp)
+	movq	%rdx, 96(%rsp)
 	movq	%rdx, %rax
-	subq	%rbp, %rax
-	cmpq	%r13, %rax
+	subq	%r13, %rax
+	cmpq	%rbp, %rax
 	jae	14f
 	movq	%rdx, %rax
-	subq	%rbp, %rax
+	subq	%r13, %rax
 	cmpq	$32, %rax
 	jae	15f
 	xorl	%eax, %eax
 	jmp	21f
 14:
 	movq	%rdx, %rdi
-	movq	%rbp, %rsi
-	movq	%r13, %rdx
+	movq	%r13, %rsi
+	movq	%rbp, %rdx
 	callq	memmove@PLT
 	jmp	25f
 15:
 	movabsq	$9223372036854775776, %rcx
-	cmpq	$32, %r13
+	cmpq	$32, %rbp
 	jae	17f
 	xorl	%eax, %eax
 	jmp	19f
 16:
-	movq	%rsi, 72(%rsp)
+	movq	%rsi, 80(%rsp)
 	movq	%rcx, %rdi
 	callq	"std_alloc::vec::Vec::grow_amortized::<#c924a0b5c89ac0c8>"
 	testb	%al, %al
 	je	60f
-	movq	24(%rsp), %rcx
+	movq	32(%rsp), %rcx
 	movq	8(%rcx), %rax
-	movq	72(%rsp), %rsi
+	movq	16(%rsp), %r10
+	movq	80(%rsp), %rsi
 	jmp	6b
 17:
-	movq	%r13, %rax
+	movq	%rbp, %rax
 	andq	%rcx, %rax
 	xorl	%esi, %esi
 	.p2align	4
 18:
-	movdqu	(%rbp,%rsi), %xmm0
-	movdqu	16(%rbp,%rsi), %xmm1
+	movdqu	(%r13,%rsi), %xmm0
+	movdqu	16(%r13,%rsi), %xmm1
 	movdqu	%xmm0, (%rdx,%rsi)
 	movdqu	%xmm1, 16(%rdx,%rsi)
 	addq	$32, %rsi
 	cmpq	%rsi, %rax
 	jne	18b
-	cmpq	%rax, %r13
+	cmpq	%rax, %rbp
 	je	25f
-	testb	$28, %r13b
+	testb	$28, %bpl
 	je	21f
 19:
 	movq	%rax, %rsi
 	addq	$28, %rcx
 	movq	%rcx, %rax
-	andq	%r13, %rax
+	andq	%rbp, %rax
 	.p2align	4
 20:
-	movl	(%rbp,%rsi), %ecx
+	movl	(%r13,%rsi), %ecx
 	movl	%ecx, (%rdx,%rsi)
 	addq	$4, %rsi
 	cmpq	%rsi, %rax
 	jne	20b
-	cmpq	%rax, %r13
+	cmpq	%rax, %rbp
 	je	25f
 21:
-	movq	%r13, %rsi
+	movq	%rbp, %rsi
 	movq	%rax, %rcx
 	andq	$3, %rsi
 	je	23f
 	movq	%rax, %rcx
 	.p2align	4
 22:
-	movzbl	(%rbp,%rcx), %edi
+	movzbl	(%r13,%rcx), %edi
 	movb	%dil, (%rdx,%rcx)
 	incq	%rcx
 	decq	%rsi
 	jne	22b
 23:
-	subq	%r13, %rax
+	subq	%rbp, %rax
 	cmpq	$-4, %rax
 	ja	25f
 	.p2align	4
 24:
-	movzbl	(%rbp,%rcx), %eax
+	movzbl	(%r13,%rcx), %eax
 	movb	%al, (%rdx,%rcx)
-	movzbl	1(%rbp,%rcx), %eax
+	movzbl	1(%r13,%rcx), %eax
 	movb	%al, 1(%rdx,%rcx)
-	movzbl	2(%rbp,%rcx), %eax
+	movzbl	2(%r13,%rcx), %eax
 	movb	%al, 2(%rdx,%rcx)
-	movzbl	3(%rbp,%rcx), %eax
+	movzbl	3(%r13,%rcx), %eax
 	movb	%al, 3(%rdx,%rcx)
 	addq	$4, %rcx
-	cmpq	%rcx, %r13
+	cmpq	%rcx, %rbp
 	jne	24b
 25:
-	movq	%r13, 120(%rsp)
+	movq	%rbp, 104(%rsp)
 	movb	$1, %cl
 26:
-	cmpq	$17, %r13
-	movq	%r13, 128(%rsp)
-	leaq	40(%rsp), %rdx
-	movq	%r13, 16(%rdx)
-	movq	112(%rsp), %rax
+	cmpq	$17, %rbp
+	movq	%rbp, 112(%rsp)
+	leaq	48(%rsp), %rdx
+	movq	%rbp, 16(%rdx)
+	movq	96(%rsp), %rax
 	movq	%rax, (%rdx)
-	movq	120(%rsp), %rax
+	movq	104(%rsp), %rax
 	movq	%rax, 8(%rdx)
 	movzbl	%cl, %eax
-	movq	%rax, 32(%rsp)
-	movq	56(%rsp), %rax
-	movq	48(%rsp), %rdx
+	movq	%rax, 40(%rsp)
+	movq	64(%rsp), %rax
+	movq	56(%rsp), %rdx
 	cmovbq	%rax, %rdx
 	movl	$16, %esi
 	cmovaeq	%rax, %rsi
@@ -1774,11 +1777,11 @@
 27:
 	testb	%cl, %cl
 	je	29f
-	movq	40(%rsp), %rdi
-	movq	48(%rsp), %rdx
+	movq	48(%rsp), %rdi
+	movq	56(%rsp), %rdx
 	movb	$42, (%rdi,%rdx)
 	incq	%rdx
-	movq	%rdx, 48(%rsp)
+	movq	%rdx, 56(%rsp)
 	cmpq	$15, %rdx
 	jbe	30f
 28:
@@ -1788,17 +1791,19 @@
 	addq	%rdi, %rdx
 	xorl	%esi, %esi
 	callq	"core::slice::edits::mirror::<i8>"
+	movq	16(%rsp), %r10
 	jmp	44f
 29:
-	movq	56(%rsp), %rdx
-	movb	$42, 40(%rsp,%rdx)
+	movq	64(%rsp), %rdx
+	movb	$42, 48(%rsp,%rdx)
 	incq	%rdx
-	movq	%rdx, 56(%rsp)
-	leaq	40(%rsp), %rdi
+	movq	%rdx, 64(%rsp)
+	leaq	48(%rsp), %rdi
 	cmpq	$15, %rdx
 	ja	28b
 30:
 	cmpq	$2, %rdx
+	movq	16(%rsp), %r10
 	jb	44f
 	movq	%rdx, %rax
 	decq	%rax
@@ -1838,9 +1843,9 @@
 	movb	%sil, (%rdi,%rcx)
 	jmp	36f
 34:
-	leaq	32(%rsp), %rdi
+	leaq	40(%rsp), %rdi
 	callq	"smallvec::small_vec::SmallVec::reserve_one::<#0389f7cd2dc58f19>"
-	movzbl	32(%rsp), %ecx
+	movzbl	40(%rsp), %ecx
 	testb	%al, %al
 	je	27b
 	jmp	61f
@@ -1920,24 +1925,24 @@
 	movb	%al, 6(%rdi)
 	.p2align	4
 44:
-	movzbl	32(%rsp), %ebp
+	movzbl	40(%rsp), %ebp
 	testq	%rbp, %rbp
-	movq	40(%rsp), %rdi
-	movq	48(%rsp), %r12
-	movq	56(%rsp), %r13
-	movq	%rbp, 144(%rsp)
-	movq	%rdi, 152(%rsp)
-	movq	%r12, 160(%rsp)
-	movq	%r13, 168(%rsp)
+	movq	48(%rsp), %rdi
+	movq	56(%rsp), %r12
+	movq	64(%rsp), %r13
+	movq	%rbp, 128(%rsp)
+	movq	%rdi, 136(%rsp)
+	movq	%r12, 144(%rsp)
+	movq	%r13, 152(%rsp)
 	movq	%rdi, %rcx
-	leaq	152(%rsp), %rax
+	leaq	136(%rsp), %rax
 	cmoveq	%rax, %rcx
 	movq	%r12, %rax
 	cmoveq	%r13, %rax
-	movq	%rbx, %rdx
+	movq	%r15, %rdx
 	shrq	$41, %rdx
 	jne	54f
-	shrq	$40, %rbx
+	shrq	$40, %r15
 	je	48f
 45:
 	testq	%rax, %rax
@@ -1946,7 +1951,7 @@
 	jne	54f
 	leaq	1(%rdi), %rcx
 	testb	%bpl, %bpl
-	leaq	153(%rsp), %rdx
+	leaq	137(%rsp), %rdx
 	cmoveq	%rdx, %rcx
 	leaq	-1(%rax), %rdx
 	cmpq	$8, %rdx
@@ -1996,30 +2001,30 @@
 	cmpq	$1, %rax
 	je	54f
 	xorl	%r9d, %r9d
-	testq	%rbx, %rbx
+	testq	%r15, %r15
 	setne	%dl
-	movl	64(%rsp), %eax
-	movl	67(%rsp), %ecx
-	movl	%ecx, 19(%rsp)
-	movl	%eax, 16(%rsp)
-	movq	192(%rsp), %rbx
-	movq	8(%rbx), %rax
-	cmpq	%rax, 16(%rbx)
+	movl	72(%rsp), %eax
+	movl	75(%rsp), %ecx
+	movl	%ecx, 27(%rsp)
+	movl	%eax, 24(%rsp)
+	movq	176(%rsp), %r15
+	movq	8(%r15), %rax
+	cmpq	%rax, 16(%r15)
 	je	52f
 51:
 	movb	%dl, %r9b
-	movq	(%rbx), %rcx
+	movq	(%r15), %rcx
 	movq	%rax, %rdx
 	shlq	$6, %rdx
-	movq	72(%rsp), %rsi
+	movq	80(%rsp), %rsi
 	movb	%sil, (%rcx,%rdx)
-	movl	16(%rsp), %esi
-	movl	19(%rsp), %r8d
+	movl	24(%rsp), %esi
+	movl	27(%rsp), %r8d
 	movl	%esi, 1(%rcx,%rdx)
 	movl	%r8d, 4(%rcx,%rdx)
-	movq	184(%rsp), %rsi
+	movq	168(%rsp), %rsi
 	movq	%rsi, 8(%rcx,%rdx)
-	movq	176(%rsp), %rsi
+	movq	160(%rsp), %rsi
 	movq	%rsi, 16(%rcx,%rdx)
 	movb	%bpl, 24(%rcx,%rdx)
 	movb	$0, 31(%rcx,%rdx)
@@ -2030,29 +2035,28 @@
 	movq	%r13, 48(%rcx,%rdx)
 	movq	%r9, 56(%rcx,%rdx)
 	incq	%rax
-	movq	%rax, 8(%rbx)
+	movq	%rax, 8(%r15)
 	movl	$1, %ebp
-	movq	%rbx, %r13
-	movq	24(%rsp), %rcx
-	movq	88(%rsp), %r9
-	movq	80(%rsp), %rsi
-	movq	96(%rsp), %rbx
-	incq	%r15
+	movq	%r15, %r13
+	movq	32(%rsp), %rcx
+	movl	12(%rsp), %r9d
+	incq	%rbx
 	movl	%ebp, %eax
-	cmpq	%r9, %r15
+	cmpq	184(%rsp), %rbx
 	jne	5b
 	jmp	53f
 52:
-	movb	%dl, 15(%rsp)
-	movq	%rdi, 104(%rsp)
-	movq	%rbx, %rdi
+	movb	%dl, 11(%rsp)
+	movq	%rdi, 88(%rsp)
+	movq	%r15, %rdi
 	callq	"std_alloc::vec::Vec::grow_amortized::<#995814d9170a922c>"
 	testb	%al, %al
 	je	63f
-	movq	8(%rbx), %rax
-	movq	104(%rsp), %rdi
+	movq	8(%r15), %rax
+	movq	88(%rsp), %rdi
+	movq	16(%rsp), %r10
 	xorl	%r9d, %r9d
-	movzbl	15(%rsp), %edx
+	movzbl	11(%rsp), %edx
 	jmp	51b
 53:
 	xorl	%edx, %edx
@@ -2096,9 +2100,9 @@
 61:
 	cmpb	$1, %cl
 	jne	62f
-	cmpq	$0, 56(%rsp)
+	cmpq	$0, 64(%rsp)
 	je	62f
-	movq	40(%rsp), %rdi
+	movq	48(%rsp), %rdi
 	callq	rattle_dealloc@PLT
 62:
 	movb	$1, %dl
@@ -2109,7 +2113,7 @@
 	je	56b
 	testq	%r13, %r13
 	je	64f
-	movq	104(%rsp), %rdi
+	movq	88(%rsp), %rdi
 	callq	rattle_dealloc@PLT
 64:
 	movb	$1, %r12b

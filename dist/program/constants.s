@@ -2026,34 +2026,34 @@
 	.ascii	"\000\001\001\001\001\001\001\001\001\001\001\001\001\001\001\001\001\001\001\001\001\001\001\001\001\001\001\001\001\001\001\001\001\001\001\001\001\001\000\001\001\001"
 	.size	".Lswitch.table.mime_tool::desk::StreamsDesk::exists::<#6c31bac265adaac4>.2592", 42
 
-	.type	".Lswitch.table.mime_tool::explain::explain_by::<#2e1b2a3647f851f7>",@object
+	.type	".Lswitch.table.mime_tool::explain::explain_read::<#2e1b2a3647f851f7>",@object
 	.section	.rodata.cst32,"aM",@progbits,32
 	.p2align	3, 0x0
-".Lswitch.table.mime_tool::explain::explain_by::<#2e1b2a3647f851f7>":
+".Lswitch.table.mime_tool::explain::explain_read::<#2e1b2a3647f851f7>":
 	.quad	10,13,10,13
-	.size	".Lswitch.table.mime_tool::explain::explain_by::<#2e1b2a3647f851f7>", 32
+	.size	".Lswitch.table.mime_tool::explain::explain_read::<#2e1b2a3647f851f7>", 32
 
-	.type	".Lswitch.table.mime_tool::explain::explain_by::<#2e1b2a3647f851f7>.2595",@object
+	.type	".Lswitch.table.mime_tool::explain::explain_read::<#2e1b2a3647f851f7>.2595",@object
 	.section	.data.rel.ro,"aw",@progbits
 	.p2align	3, 0x0
-".Lswitch.table.mime_tool::explain::explain_by::<#2e1b2a3647f851f7>.2595":
+".Lswitch.table.mime_tool::explain::explain_read::<#2e1b2a3647f851f7>.2595":
 	.quad	.L5830d5e096db
 	.quad	.Lbf390fbfa02b
 	.quad	.L6771e55d57d5
 	.quad	.L1fd369fd7617
-	.size	".Lswitch.table.mime_tool::explain::explain_by::<#2e1b2a3647f851f7>.2595", 32
+	.size	".Lswitch.table.mime_tool::explain::explain_read::<#2e1b2a3647f851f7>.2595", 32
 
-	.type	".Lswitch.table.mime_tool::explain::explain_by::<#2e1b2a3647f851f7>.2596",@object
+	.type	".Lswitch.table.mime_tool::explain::explain_read::<#2e1b2a3647f851f7>.2596",@object
 	.section	.rodata,"a",@progbits
 	.p2align	3, 0x0
-".Lswitch.table.mime_tool::explain::explain_by::<#2e1b2a3647f851f7>.2596":
+".Lswitch.table.mime_tool::explain::explain_read::<#2e1b2a3647f851f7>.2596":
 	.quad	19,20,23,21,21,18,18,18,26
-	.size	".Lswitch.table.mime_tool::explain::explain_by::<#2e1b2a3647f851f7>.2596", 72
+	.size	".Lswitch.table.mime_tool::explain::explain_read::<#2e1b2a3647f851f7>.2596", 72
 
-	.type	".Lswitch.table.mime_tool::explain::explain_by::<#2e1b2a3647f851f7>.2597",@object
+	.type	".Lswitch.table.mime_tool::explain::explain_read::<#2e1b2a3647f851f7>.2597",@object
 	.section	.data.rel.ro,"aw",@progbits
 	.p2align	3, 0x0
-".Lswitch.table.mime_tool::explain::explain_by::<#2e1b2a3647f851f7>.2597":
+".Lswitch.table.mime_tool::explain::explain_read::<#2e1b2a3647f851f7>.2597":
 	.quad	.L578e4c20615e
 	.quad	.L62256f76d65b
 	.quad	.Lb4d0460a73df
@@ -2063,7 +2063,7 @@
 	.quad	.L28bf7eaf625e
 	.quad	.La3c42d80fcd3
 	.quad	.Lf638752c7fdf
-	.size	".Lswitch.table.mime_tool::explain::explain_by::<#2e1b2a3647f851f7>.2597", 72
+	.size	".Lswitch.table.mime_tool::explain::explain_read::<#2e1b2a3647f851f7>.2597", 72
 
 	.type	".Lswitch.table.mime_tool::line::print_line::<#2e1b2a3647f851f7>",@object
 	.section	.rodata,"a",@progbits

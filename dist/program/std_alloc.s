@@ -6,10 +6,10 @@
 "std_alloc::boxed::Box::drop::<#11c05536263c65f8>":
 	pushq	%r14
 	pushq	%rbx
-	subq	$200, %rsp
+	subq	$312, %rsp
 	movq	%rdi, %rbx
 	leaq	8(%rsp), %r14
-	movl	$192, %edx
+	movl	$304, %edx
 	movq	%r14, %rdi
 	movq	%rbx, %rsi
 	callq	memcpy@PLT
@@ -17,7 +17,7 @@
 	callq	rattle_dealloc@PLT
 	movq	%r14, %rdi
 	callq	"mime_lookup::mime_lookup++read_back++names++IndexedNames+Destruct::drop"
-	addq	$200, %rsp
+	addq	$312, %rsp
 	popq	%rbx
 	popq	%r14
 	retq
@@ -228,38 +228,54 @@
 	pushq	%r13
 	pushq	%r12
 	pushq	%rbx
-	subq	$72, %rsp
-	movq	16(%rdi), %rbx
-	movq	40(%rdi), %rbp
-	movq	56(%rdi), %r13
+	subq	$136, %rsp
+	movq	16(%rdi), %r13
+	movq	40(%rdi), %r12
+	movq	56(%rdi), %rbp
 	movq	64(%rdi), %rax
 	movq	%rax, 8(%rsp)
 	movq	80(%rdi), %r15
 	movq	88(%rdi), %rax
 	movq	%rax, 16(%rsp)
-	movq	104(%rdi), %r14
+	movq	104(%rdi), %rbx
 	movq	112(%rdi), %rax
 	movq	%rax, 24(%rsp)
 	movq	128(%rdi), %rax
-	movq	%rax, 48(%rsp)
+	movq	%rax, 80(%rsp)
 	movq	136(%rdi), %rax
 	movq	%rax, 32(%rsp)
 	movq	152(%rdi), %rax
-	movq	%rax, 56(%rsp)
+	movq	%rax, 88(%rsp)
 	movq	160(%rdi), %rax
 	movq	%rax, 40(%rsp)
 	movq	176(%rdi), %rax
+	movq	%rax, 96(%rsp)
+	movq	192(%rdi), %rax
+	movq	%rax, 48(%rsp)
+	movq	208(%rdi), %rax
+	movq	%rax, 104(%rsp)
+	movq	216(%rdi), %rax
+	movq	%rax, 56(%rsp)
+	movq	232(%rdi), %rax
+	movq	%rax, 112(%rsp)
+	movq	240(%rdi), %rax
 	movq	%rax, 64(%rsp)
-	movq	32(%rdi), %r12
+	movq	256(%rdi), %rax
+	movq	%rax, 120(%rsp)
+	movq	264(%rdi), %rax
+	movq	%rax, 72(%rsp)
+	movq	280(%rdi), %rax
+	movq	%rax, 128(%rsp)
+	movq	32(%rdi), %r14
 	callq	rattle_dealloc@PLT
-	testq	%r12, %r12
+	testq	%r14, %r14
 	je	1f
-	movq	%rbx, %rdi
+	movq	%r13, %rdi
 	callq	rattle_dealloc@PLT
 1:
-	testq	%r13, %r13
+	testq	%rbp, %rbp
 	je	2f
-	movq	%rbp, %rdi
+	movq	%r12, %rdi
 	callq	rattle_dealloc@PLT
 2:
 	testq	%r15, %r15
@@ -267,25 +283,45 @@
 	movq	8(%rsp), %rdi
 	callq	rattle_dealloc@PLT
 3:
-	testq	%r14, %r14
+	testq	%rbx, %rbx
 	je	4f
 	movq	16(%rsp), %rdi
 	callq	rattle_dealloc@PLT
 4:
-	cmpq	$0, 48(%rsp)
+	cmpq	$0, 80(%rsp)
 	je	5f
 	movq	24(%rsp), %rdi
 	callq	rattle_dealloc@PLT
 5:
-	cmpq	$0, 56(%rsp)
+	cmpq	$0, 88(%rsp)
 	je	6f
 	movq	32(%rsp), %rdi
 	callq	rattle_dealloc@PLT
 6:
-	cmpq	$0, 64(%rsp)
+	cmpq	$0, 96(%rsp)
 	je	7f
 	movq	40(%rsp), %rdi
-	addq	$72, %rsp
+	callq	rattle_dealloc@PLT
+7:
+	cmpq	$0, 104(%rsp)
+	je	8f
+	movq	48(%rsp), %rdi
+	callq	rattle_dealloc@PLT
+8:
+	cmpq	$0, 112(%rsp)
+	je	9f
+	movq	56(%rsp), %rdi
+	callq	rattle_dealloc@PLT
+9:
+	cmpq	$0, 120(%rsp)
+	je	10f
+	movq	64(%rsp), %rdi
+	callq	rattle_dealloc@PLT
+10:
+	cmpq	$0, 128(%rsp)
+	je	11f
+	movq	72(%rsp), %rdi
+	addq	$136, %rsp
 	popq	%rbx
 	popq	%r12
 	popq	%r13
@@ -293,8 +329,8 @@
 	popq	%r15
 	popq	%rbp
 	jmp	rattle_dealloc@PLT
-7:
-	addq	$72, %rsp
+11:
+	addq	$136, %rsp
 	popq	%rbx
 	popq	%r12
 	popq	%r13
@@ -302,8 +338,8 @@
 	popq	%r15
 	popq	%rbp
 	retq
-8:
-	.size	"std_alloc::boxed::Box::drop::<#fbe121e601c74963>", 8b-"std_alloc::boxed::Box::drop::<#fbe121e601c74963>"
+12:
+	.size	"std_alloc::boxed::Box::drop::<#fbe121e601c74963>", 12b-"std_alloc::boxed::Box::drop::<#fbe121e601c74963>"
 
 	.text
 	.p2align	4

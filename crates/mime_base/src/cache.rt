@@ -19,15 +19,15 @@ ghost use Rattle.std.specs.Cmp.Lexicographic.{slice_cmp};
 ghost use Rattle.mime_base.specs.Cache.Bytes.{both_lie, fields, lies, optional_mask, value_at};
 ghost use Rattle.mime_base.specs.Magic.Holds.{equals_from};
 ghost use Rattle.mime_base.specs.Magic.Masking.{equal_bytes, window_equals};
-ghost use Rattle.mime_base.specs.Magic.Ranges.{compared_from, stated_line, window_fits};
-ghost use Rattle.mime_base.specs.Meter.{raised};
+ghost use Rattle.mime_base.specs.Magic.Ranges.{compared_from, compared_stated, stated_line, window_fits};
+ghost use Rattle.mime_base.specs.Meter.{CountsBytes, raised};
 ghost use Rattle.mime_base.specs.Cache.Texts.{Compares, before_zero, text_at, text_cost, unended};
 
 use crate::cache::byte_fault::ByteFault;
 use crate::cache::comparing::{compare_all, early_stop, order_at_stop};
 use crate::cache::key::Key;
 use crate::cache::stated_value::StatedValue;
-use crate::magic::content::Content;
+use crate::magic::content::NotedContent;
 use crate::magic::host::Host;
 use crate::magic::masking::equal_bytes;
 use crate::magic::ranges::{value_in_range, windows_differing};
@@ -288,18 +288,12 @@ impl<'a> Counted<'a> {
         // A fault names the value's offset where the value isn't in the cache, and the mask's where only that isn't.
         ensures fault { IfErr result (λ fault. (both_lie self.now at mask_at size ≡ false)
             × (fault ≡ ByteFault.OutOfRange (if lies self.now at size then mask_at else at))) }
-        // No record is counted.
-        ensures nodes { meter.new.nodes ≡ meter.old.nodes }
-        // With an answer it counts the window's bytes up to and including the first that differs, else all of them.
-        ensures bytes { OnOk result (meter.new.bytes ≡ raised meter.old.bytes
-            (min (equal_bytes (value_at self.now at size)
-            (optional_mask self.now mask_at size) word host window.now + 1) size)) }
-        // Before a fault no byte is counted.
-        ensures bytes_at_fault { OnErr result (meter.new.bytes ≡ meter.old.bytes) }
+        // With an answer it counts the window's bytes up to and including the first that differs, else all; before a fault none.
+        ensures counts { CountsBytes (if both_lie self.now at mask_at size
+            then min (equal_bytes (value_at self.now at size) (optional_mask self.now mask_at size) word host window.now + 1) size
+            else 0) meter.old meter.new }
         // It counts at most as many bytes as the value has.
         ensures limit { meter.new.bytes ≤ meter.old.bytes + size }
-        // The count of bytes never falls, since it stops at the greatest number.
-        ensures rises { meter.old.bytes ≤ meter.new.bytes }
     {
         if window.is_empty() {
             return Ok(true);
@@ -322,7 +316,7 @@ impl<'a> Counted<'a> {
         value: StatedValue,
         start: u32,
         range: u32,
-        content: &Content<'_>,
+        content: &NotedContent<'_>,
         meter: &mut Meter,
     ) -> bool
         // What differs at once lies in the cache with its mask.
@@ -331,16 +325,12 @@ impl<'a> Counted<'a> {
         ensures differs { result ≡ true → (host : Host) →
             false ≡ equals_from (stated_line self.now value start range) host content.now start range }
         // For each window tried it counts the bytes compared, including the first mismatch.
-        ensures bytes { result ≡ true → (host : Host) → meter.new.bytes ≡ raised meter.old.bytes
-            (compared_from (stated_line self.now value start range) host content.now start range) }
+        ensures counts { result ≡ true → (host : Host) →
+            CountsBytes (compared_from (stated_line self.now value start range) host content.now start range) meter.old meter.new }
         // That is at most one byte more than the content has, for each byte of the value.
         ensures limit { meter.new.bytes ≤ meter.old.bytes + (length content.now + 1) * value.size }
         // Of anything else nothing is counted.
         ensures untouched { result ≡ false → meter.new ≡ meter.old }
-        // No record is counted.
-        ensures nodes { meter.new.nodes ≡ meter.old.nodes }
-        // The count of bytes never falls, since it stops at the greatest number.
-        ensures rises { meter.old.bytes ≤ meter.new.bytes }
     {
         let StatedValue {
             at,
@@ -392,18 +382,10 @@ impl<'a> Counted<'a> {
         // A fault names the value's offset where the value isn't in the cache, and the mask's where only that isn't.
         ensures fault { IfErr result (λ fault. (both_lie self.now value.at value.mask_at value.size ≡ false)
             × (fault ≡ ByteFault.OutOfRange (if lies self.now value.at value.size then value.mask_at else value.at))) }
-        // No record is counted.
-        ensures nodes { meter.new.nodes ≡ meter.old.nodes }
-        // For each window tried it counts the bytes compared, including the first mismatch.
-        ensures bytes { both_lie self.now value.at value.mask_at value.size ≡ true → meter.new.bytes ≡ raised meter.old.bytes
-            (compared_from (stated_line self.now value start range) host content.now start range) }
-        // Where value or mask isn't in the cache, no byte is counted.
-        ensures bytes_outside { both_lie self.now value.at value.mask_at value.size ≡ false →
-            meter.new.bytes ≡ meter.old.bytes }
+        // For each window tried it counts the bytes compared, including the first mismatch; none where value or mask isn't in the cache.
+        ensures counts { CountsBytes (compared_stated self.now value start range host content.now) meter.old meter.new }
         // It counts at most one byte more than the content has, for each byte of the value.
         ensures limit { meter.new.bytes ≤ meter.old.bytes + (length content.now + 1) * value.size }
-        // The count of bytes never falls, since it stops at the greatest number.
-        ensures rises { meter.old.bytes ≤ meter.new.bytes }
     {
         let StatedValue {
             at,

@@ -15,7 +15,7 @@ pub mod elements;
 pub mod folding;
 
 ghost use Rattle.std.specs.Prelude.{◌≡◌, true, false, ◌+◌, ◌-◌, ◌*◌, ◌<◌, ◌≤◌, ◌↔◌, ◌∷◌, length, drop, IsTrue, IfSome, IsNone};
-ghost use Rattle.mime_base.specs.Matching.Attempt.{Goes, decided, last_tests, owed, takes_a_byte, tests_after};
+ghost use Rattle.mime_base.specs.Matching.Attempt.{Goes, LeavesPart, SlidesTo, last_tests, takes_a_byte};
 ghost use Rattle.mime_base.specs.Matching.Count.{has_star, rule_tests, tests_of};
 ghost use Rattle.mime_base.specs.Matching.Elements.{any_bytes, elements, is_literal_text, HasNoEnd};
 ghost use Rattle.mime_base.specs.Matching.Folding.{compared};
@@ -167,11 +167,10 @@ fn try_front<'a>(pattern: &'a [u8], endless: usize, cased: bool, name: &[u8]) ->
     requires { HasNoEnd endless pattern.now }
     ensures goes { Goes result.halt result.passed (elements (compared cased pattern.now))
         (compared cased name.now) (elements (compared cased result.after.now)) }
-    ensures passed { result.passed ≤ length name.now }
+    ensures part { LeavesPart endless pattern.now name.now result }
     ensures tests { result.tests ≡ result.passed + last_tests result.halt }
     ensures most { result.tests ≤ length pattern.now }
     ensures star { result.halt ≡ Halt.Star → result.tests + length result.after.now < length pattern.now }
-    ensures endless { HasNoEnd endless result.after.now }
 {
     match pattern {
         [b'*', after @ ..] => Reach {
@@ -189,17 +188,8 @@ fn try_front<'a>(pattern: &'a [u8], endless: usize, cased: bool, name: &[u8]) ->
 fn slide<'a>(pattern: &'a [u8], endless: usize, cased: bool, name: &[u8]) -> Reach<'a>
     requires endless { HasNoEnd endless pattern.now }
     requires star { has_star (elements (compared cased pattern.now)) ≡ true }
-    ensures decided { matches (any_bytes ∷ elements (compared cased pattern.now)) (compared cased name.now)
-        ≡ decided result.halt (elements (compared cased result.after.now))
-        (compared cased (drop result.passed name.now)) }
-    ensures tests { raised 0 (tests_of (any_bytes ∷ elements (compared cased pattern.now)) (compared cased name.now))
-        ≡ raised result.tests (tests_after result.halt (elements (compared cased result.after.now))
-        (compared cased (drop result.passed name.now))) }
-    ensures passed { result.passed ≤ length name.now }
-    ensures shorter { result.halt ≡ Halt.Star → length result.after.now < length pattern.now }
-    ensures endless { HasNoEnd endless result.after.now }
-    ensures least { owed result.halt (elements (compared cased pattern.now))
-        (elements (compared cased result.after.now)) ≤ result.tests }
+    ensures slides { SlidesTo cased pattern.now name.now result }
+    ensures part { LeavesPart endless pattern.now name.now result }
     ensures most { result.tests ≤ length pattern.now * (length name.now + 1) }
     ensures star { result.halt ≡ Halt.Star →
         result.tests + length result.after.now * (length name.now - result.passed + 1)

@@ -7,6 +7,6 @@ use Rattle.mime_view.specs.Opening.{IsOpenFault, Opens}
 use Rattle.mime_view.specs.declared.fault.CacheFault.{CacheFault}
 
 -- it opens, or it has this fault
-abbrev pub IsCheck : List ℕ → Report → Type 0
-IsCheck c told = (Opens c × (told ≡ status_report status_answered 0 (meter_of told)))
+abbrev pub IsOpenCheck : List ℕ → Report → Type 0
+IsOpenCheck c told = (Opens c × (told ≡ status_report status_answered 0 (meter_of told)))
     ⊎ ((e : CacheFault) × IsOpenFault c e × (told ≡ fault_report e 0 (meter_of told)))

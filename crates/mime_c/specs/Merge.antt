@@ -19,7 +19,7 @@ use Rattle.mime_text.specs.declared.magic.fault.MagicFaultKind.{MagicFaultKind}
 use Rattle.mime_text.specs.declared.magic.fault.MagicFaultKind.TheVariants as kind
 
 -- The bytes are a cache of the database that directories say: what the command `build` writes.
-pub record IsCacheOf (dirs : List DirTexts) (cache : List ℕ) : Type 0 where
+pub record IsCacheOfDirs (dirs : List DirTexts) (cache : List ℕ) : Type 0 where
   -- The database: what the texts say, merged, less the rules that are never kept.
   pub database : PlainDatabase
   pub says : SayDatabase dirs database
@@ -87,10 +87,10 @@ IsMergeReport (Ok cache) before after told = IsCachePut cache.items before after
 IsMergeReport (Err e) before after told = (after ≡ before) × (told ≡ merge_fault_report e)
 
 -- What C gets of directories.
-pub record IsMerged (dirs : List DirTexts) (before after : CacheRoom) (told : MergeReport) : Type 0 where
+pub record IsMergeAnswer (dirs : List DirTexts) (before after : CacheRoom) (told : MergeReport) : Type 0 where
   -- The cache, or why there is none.
   pub outcome : Result (Vec ℕ Global) MergeFault
   -- It is a cache of what the directories say, or this is why.
-  pub promised : MatchResult outcome (λ cache. IsCacheOf dirs cache.items) (IsMergeFault dirs)
+  pub promised : MatchResult outcome (λ cache. IsCacheOfDirs dirs cache.items) (IsMergeFault dirs)
   -- C is told just this.
   pub told_so : IsMergeReport outcome before after told

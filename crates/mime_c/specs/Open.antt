@@ -9,12 +9,12 @@ use Rattle.mime_view.specs.declared.fault.CacheFault.{CacheFault}
 use Rattle.mime_view.specs.declared.fault.CacheFault.TheVariants.{OutOfMemory}
 
 -- what is wrong with the header, or memory was refused for a cache that opens
-abbrev pub IsRefused : List ℕ → CacheFault → Type 0
-IsRefused c e = IsOpenFault c e ⊎ (Opens c × (e ≡ OutOfMemory))
+abbrev pub IsUnopened : List ℕ → CacheFault → Type 0
+IsUnopened c e = IsOpenFault c e ⊎ (Opens c × (e ≡ OutOfMemory))
 
 -- What is open then, and what C is told.
 pub data IsOpened (c : List ℕ) (kept : Option (List ℕ)) (told : Report) : Type 0 where
   -- the cache is open, and the status says so
   open_now : (meter : Meter) → Opens c → kept ≡ Some c → told ≡ status_report status_answered 0 meter → IsOpened c kept told
   -- nothing is, and the status says why
-  refused : (e : CacheFault) (meter : Meter) → IsRefused c e → kept ≡ None → told ≡ fault_report e 0 meter → IsOpened c kept told
+  refused : (e : CacheFault) (meter : Meter) → IsUnopened c e → kept ≡ None → told ≡ fault_report e 0 meter → IsOpened c kept told

@@ -4,8 +4,8 @@ use Rattle.mime_lookup.specs.declared.order.Order.{Order}
 use Rattle.mime_lookup.specs.declared.order.Order.TheVariants.{AllGlobs, GlobsFirst, MagicFirst}
 
 -- the order of a number, where there is one
-abbrev pub order_of : ℕ → Option Order
-order_of number =
+abbrev pub numbered_order : ℕ → Option Order
+numbered_order number =
     if number == 0 then Some GlobsFirst
     else if number == 1 then Some MagicFirst
     else if number == 2 then Some AllGlobs

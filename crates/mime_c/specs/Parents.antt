@@ -39,8 +39,8 @@ pub record AreWritten {X Y : Type 0} (view : X → Y) (items : List Y) (before a
   pub rest : drop (length items) after ≡ drop (length items) before
 
 -- the bytes of a text
-abbrev pub bytes_of : Text → List ℕ
-bytes_of text = text.bytes.now
+abbrev pub bytes_of_text : Text → List ℕ
+bytes_of_text text = text.bytes.now
 
 -- an array of texts, and how many there are to be written
 pub record Slots : Type 0 where
@@ -50,7 +50,7 @@ pub record Slots : Type 0 where
 -- the array has the parents as far as there is room, and the count is of all
 abbrev pub AreGivenParents : Slots → Slots → Option Parents → Type 0
 AreGivenParents before after found =
-    AreWritten bytes_of (types_of found) before.texts after.texts × (after.count ≡ length (types_of found))
+    AreWritten bytes_of_text (types_of found) before.texts after.texts × (after.count ≡ length (types_of found))
 
 -- so they go out; where there are none to be given, both stay
 abbrev pub IsParentsReport : Slots → Slots → Result (Option Parents) CacheFault → Meter → Report → Type 0

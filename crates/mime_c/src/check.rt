@@ -1,7 +1,7 @@
 //! Whether a cache can be opened.
 
 ghost use Rattle.std.specs.Prelude.{◌≡◌, ◌≤◌};
-ghost use Rattle.mime_c.specs.Check.{IsCheck};
+ghost use Rattle.mime_c.specs.Check.{IsOpenCheck};
 
 use crate::report::{Report, answered, fault_report};
 use mime_base::{Counted, Meter};
@@ -13,7 +13,7 @@ use mime_view::Cache;
 #[unsafe(no_mangle)]
 pub extern "C" fn mimelook_check(cache: &[u8]) -> Report
     // The status says whether the bytes open as a cache, and else the first thing that is wrong.
-    ensures opened { IsCheck cache.now result }
+    ensures opened { IsOpenCheck cache.now result }
     // At most the header is visited.
     ensures nodes { result.nodes ≤ 1 }
     // Nothing is compared.

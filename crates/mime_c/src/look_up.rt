@@ -4,7 +4,7 @@ ghost use Rattle.std.specs.Prelude.{◌≢◌, IfErr, IfSome, Some};
 ghost use Rattle.mime_c.specs.Headline.{IsHeadline};
 ghost use Rattle.mime_c.specs.LookUp.{IsLookUp, IsLookUpReport, IsLookedUp, IsNameReport};
 ghost use Rattle.mime_c.specs.LookUp.{IsTypedByContent, IsTypedByName, IsWritten, available_content};
-ghost use Rattle.mime_c.specs.Order.{order_of};
+ghost use Rattle.mime_c.specs.Order.{numbered_order};
 ghost use Rattle.mime_lookup.specs.NameAlone.{IsNameLookUp};
 
 use crate::order::order_of;
@@ -52,10 +52,10 @@ pub extern "C" fn look_up_with<'a>(
     answer: &mut TypeAnswer<'a>,
 ) -> Report
     // It is what `look_up` answers over the content, or `look_up_name` without one, or an unknown order; only an answer is written.
-    ensures promises { IsLookedUp cache.now name.now (available_content has_content content.now) (order_of order)
+    ensures promises { IsLookedUp cache.now name.now (available_content has_content content.now) (numbered_order order)
         answer.old answer.new result }
     // On any bytes it keeps to the bounds, and over a cache that was written it gives the type of the checking order.
-    ensures headline { IfSome (order_of order) (λ order. IsHeadline cache.now name.now
+    ensures headline { IfSome (numbered_order order) (λ order. IsHeadline cache.now name.now
         (available_content has_content content.now) order answer.new.kind.bytes.now result) }
 {
     let Some(order) = order_of(order) else {

@@ -1,7 +1,7 @@
 //! A cache of data directories, in memory ("Directory layout").
 
 ghost use Rattle.std.specs.Prelude.{◌≡◌, MatchResult};
-ghost use Rattle.mime_c.specs.Merge.{IsCacheOf, IsCachePut, IsMergeFault, IsMerged};
+ghost use Rattle.mime_c.specs.Merge.{IsCacheOfDirs, IsCachePut, IsMergeFault, IsMergeAnswer};
 ghost use Rattle.mime_c.specs.Merge.{magic_number, merge_fault_report, merge_status};
 
 use crate::status::{ANSWERED, BAD_MAGIC, OUT_OF_MEMORY, SHORT_BUFFER, TOO_LARGE};
@@ -76,7 +76,7 @@ pub extern "C" fn mimelook_merge(
     length: &mut usize,
 ) -> MergeReport
     // It is a cache of what the directories say, or why there is none; the buffer is written only with an answer.
-    ensures promises { IsMerged directories.now (record { buffer = buffer.old; length = length.old })
+    ensures promises { IsMergeAnswer directories.now (record { buffer = buffer.old; length = length.old })
         (record { buffer = buffer.new; length = length.new }) result }
 {
     match merged_cache(alloc, directories) {
@@ -101,7 +101,7 @@ fn put_cache(bytes: &[u8], buffer: &mut [u8], length: &mut usize) -> MergeReport
 
 // The cache of the directories.
 fn merged_cache(alloc: Global, directories: &[DirTexts<'_>]) -> Result<Vec<u8>, MergeFault>
-    ensures { MatchResult result (λ cache. IsCacheOf directories.now cache.items) (IsMergeFault directories.now) }
+    ensures { MatchResult result (λ cache. IsCacheOfDirs directories.now cache.items) (IsMergeFault directories.now) }
 {
     let files = match read_dirs(alloc, directories) {
         Ok(files) => files,

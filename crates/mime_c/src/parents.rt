@@ -1,7 +1,7 @@
 //! The parents of a type.
 
 ghost use Rattle.std.specs.Prelude.{◌≡◌, ◌+◌, ◌*◌, ◌/◌, length, map};
-ghost use Rattle.mime_c.specs.Parents.{AreWritten, IsAskedParents, IsParents, IsParentsReport, bytes_of, types_of};
+ghost use Rattle.mime_c.specs.Parents.{AreWritten, IsAskedParents, IsParents, IsParentsReport, bytes_of_text, types_of};
 ghost use Rattle.mime_c.specs.Reader.{IsOfCache};
 ghost use Rattle.mime_view.specs.Spending.{Looks};
 
@@ -56,7 +56,7 @@ pub(crate) fn tell<'a>(
 
 // The parents that were found, as far as there is room, and how many they are.
 fn put_parents<'a>(found: &Option<Parents<'a>>, parents: &mut [Text<'a>]) -> usize
-    ensures written { AreWritten bytes_of (types_of found.now) parents.old parents.new }
+    ensures written { AreWritten bytes_of_text (types_of found.now) parents.old parents.new }
     ensures count { result ≡ length (types_of found.now) }
 {
     match found {
@@ -71,7 +71,7 @@ fn put_parents<'a>(found: &Option<Parents<'a>>, parents: &mut [Text<'a>]) -> usi
 
 // Texts at the front of an array, as far as there is room.
 fn put_texts<'a>(texts: &[&'a [u8]], array: &mut [Text<'a>])
-    ensures { AreWritten bytes_of (map (λ text. text.now) texts.now) array.old array.new }
+    ensures { AreWritten bytes_of_text (map (λ text. text.now) texts.now) array.old array.new }
 {
     let room = texts.len().min(array.len());
     for i in 0..room {

@@ -57,15 +57,13 @@ fn ask<'a>(cache: &'a [u8], kind: &'a [u8], meter: &mut Meter) -> Result<&'a [u8
     }
 }
 
-/// The same over an opened cache.
-pub(crate) fn alias_step<'a>(
+// The same over an opened cache.
+fn alias_step<'a>(
     opened: &Cache<'a>,
     kind: &'a [u8],
     meter: &mut Meter,
 ) -> Result<&'a [u8], CacheFault>
-    // It is the type that the name stands for, or the name.
     ensures promises { IsAliasStep opened.now kind.entry.now result }
-    // It visits at most 29 records, and compares at most a text for each.
     ensures cost { Looks 29 (256 * 29) meter.old meter.new }
 {
     let mut budget = Budget::of(opened);

@@ -15,7 +15,7 @@ use Rattle.mime_base.specs.Matching.Folding.{compared, compared_byte}
 use Rattle.mime_base.specs.declared.database.rule.GlobRule.{GlobRule}
 use Rattle.mime_view.proofs.HitsLemmas.RulePlaces.{tree_pattern}
 use Rattle.mime_load.specs.Parts.{IsTreeList}
-use Rattle.mime_load.specs.Walks.{Ended, Ends}
+use Rattle.mime_load.specs.Walks.{Ended, HasEnding}
 use Rattle.mime_load.proofs.StoredPatterns.{compared-bytes}
 
 -- What a leaf says of the ending that leads to it.
@@ -24,7 +24,7 @@ pub record FitsLeaf (ending : List ℕ) : Type 0 where
   pub bytes : All (λ b. b < 256) ending
 
 -- a leaf's rule
-ends_fit : (ending : List ℕ) (rule : GlobRule) → Ends ending rule → FitsLeaf ending
+ends_fit : (ending : List ℕ) (rule : GlobRule) → HasEnding ending rule → FitsLeaf ending
 ends_fit ending rule e =
     let limits : KeepsLimits rule = e.2 in
     let size : length (stored_text rule) ≡ length rule.pattern = length-map rule.pattern (compared_byte rule.cased) in
@@ -67,18 +67,18 @@ path_ending character path ending =
     ap (λ (xs : List ℕ). xs ++ ending) (reverse-append (character ∷ []) path) ∙ append_assoc (reverse path) (character ∷ []) ending
 
 -- each leaf's rule ends as its path says, if those at each path do
-ended_each : (ending : List ℕ) (tree : Tree) → ((path : List ℕ) → All (Ends (reverse path ++ ending)) (leaves_at path tree))
+ended_each : (ending : List ℕ) (tree : Tree) → ((path : List ℕ) → All (HasEnding (reverse path ++ ending)) (leaves_at path tree))
     → Ended ending tree
 ended_each ending bare each = tt
 ended_each ending (leaf rule rest) each = (
-  All-head (Ends ending) rule (leaves_at [] rest) (each []),
+  All-head (HasEnding ending) rule (leaves_at [] rest) (each []),
   ended_each ending rest (after_leaf ending rule rest each),
 )
   where
     after_leaf : (ending : List ℕ) (rule : GlobRule) (rest : Tree)
-        → ((path : List ℕ) → All (Ends (reverse path ++ ending)) (leaves_at path (leaf rule rest)))
-        → (path : List ℕ) → All (Ends (reverse path ++ ending)) (leaves_at path rest)
-    after_leaf ending rule rest each [] = All-tail (Ends ending) rule (leaves_at [] rest) (each [])
+        → ((path : List ℕ) → All (HasEnding (reverse path ++ ending)) (leaves_at path (leaf rule rest)))
+        → (path : List ℕ) → All (HasEnding (reverse path ++ ending)) (leaves_at path rest)
+    after_leaf ending rule rest each [] = All-tail (HasEnding ending) rule (leaves_at [] rest) (each [])
     after_leaf ending rule rest each (b ∷ path) = each (b ∷ path)
 ended_each ending (node character below rest) each = (
   ended_each (character ∷ ending) below (below_node ending character below rest each),
@@ -86,23 +86,23 @@ ended_each ending (node character below rest) each = (
 )
   where
     below_node : (ending : List ℕ) (character : ℕ) (below rest : Tree)
-        → ((path : List ℕ) → All (Ends (reverse path ++ ending)) (leaves_at path (node character below rest)))
-        → (path : List ℕ) → All (Ends (reverse path ++ (character ∷ ending))) (leaves_at path below)
+        → ((path : List ℕ) → All (HasEnding (reverse path ++ ending)) (leaves_at path (node character below rest)))
+        → (path : List ℕ) → All (HasEnding (reverse path ++ (character ∷ ending))) (leaves_at path below)
     below_node ending character below rest each path =
         let same : (character == character) ≡ true = eq-eqb character character refl in
-        let here : All (Ends (reverse (character ∷ path) ++ ending)) (leaves_at path below ++ leaves_at (character ∷ path) rest) =
-        subst (λ (t : Bool). All (Ends (reverse (character ∷ path) ++ ending))
+        let here : All (HasEnding (reverse (character ∷ path) ++ ending)) (leaves_at path below ++ leaves_at (character ∷ path) rest) =
+        subst (λ (t : Bool). All (HasEnding (reverse (character ∷ path) ++ ending))
         (cond t (leaves_at path below) [] ++ leaves_at (character ∷ path) rest))
         same (each (character ∷ path)) in
-        subst (λ (e : List ℕ). All (Ends e) (leaves_at path below)) (path_ending character path ending)
-        (all_left (Ends (reverse (character ∷ path) ++ ending)) (leaves_at path below) (leaves_at (character ∷ path) rest) here)
+        subst (λ (e : List ℕ). All (HasEnding e) (leaves_at path below)) (path_ending character path ending)
+        (all_left (HasEnding (reverse (character ∷ path) ++ ending)) (leaves_at path below) (leaves_at (character ∷ path) rest) here)
 
     after_node : (ending : List ℕ) (character : ℕ) (below rest : Tree)
-        → ((path : List ℕ) → All (Ends (reverse path ++ ending)) (leaves_at path (node character below rest)))
-        → (path : List ℕ) → All (Ends (reverse path ++ ending)) (leaves_at path rest)
+        → ((path : List ℕ) → All (HasEnding (reverse path ++ ending)) (leaves_at path (node character below rest)))
+        → (path : List ℕ) → All (HasEnding (reverse path ++ ending)) (leaves_at path rest)
     after_node ending character below rest each [] = each []
     after_node ending character below rest each (b ∷ path) =
-        all_right (Ends (reverse (b ∷ path) ++ ending)) (cond (character == b) (leaves_at path below) []) (leaves_at (b ∷ path) rest)
+        all_right (HasEnding (reverse (b ∷ path) ++ ending)) (cond (character == b) (leaves_at path below) []) (leaves_at (b ∷ path) rest)
         (each (b ∷ path))
 
 -- the stored text of a rule of the tree is a star and its ending
@@ -123,7 +123,7 @@ tree_text rule is =
 
 -- the rules at a path of those that have a tree
 rules_end : (path : List ℕ) (rules : List GlobRule) → All KeepsLimits rules
-    → All (Ends (reverse path ++ [])) (with_key reversed_ending path (tree_rules rules))
+    → All (HasEnding (reverse path ++ [])) (with_key reversed_ending path (tree_rules rules))
 rules_end path rules limits k d within =
     let rule = get_or (with_key reversed_ending path (tree_rules rules)) k d in
     let keyed = λ (rule : GlobRule). bytes_eq (reversed_ending rule) path in
@@ -140,5 +140,5 @@ rules_end path rules limits k d within =
 -- a tree of rules ends as its paths say
 pub tree_ended : (c : List ℕ) (at : ℕ) (rules : List GlobRule) (list : IsTreeList c at rules) → Ended [] list.stand.tree
 tree_ended c at rules list =
-    ended_each [] list.stand.tree (λ path. subst (λ (xs : List GlobRule). All (Ends (reverse path ++ [])) xs) (sym (list.stand.leaves path))
+    ended_each [] list.stand.tree (λ path. subst (λ (xs : List GlobRule). All (HasEnding (reverse path ++ [])) xs) (sym (list.stand.leaves path))
     (rules_end path rules list.limits))

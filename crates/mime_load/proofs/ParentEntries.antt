@@ -18,7 +18,7 @@ use Rattle.mime_store.specs.Views.{first_text}
 use Rattle.mime_store.proofs.ParentsLemmas.ParentLists.{parents_stand}
 use Rattle.mime_view.proofs.SearchLemmas.Lookups.{less_differs}
 use Rattle.mime_view.proofs.SearchLemmas.Places.{text_order}
-use Rattle.mime_load.specs.ParentLists.{Adding, Adds, Entries, IsBefore, IsEntry, IsGood}
+use Rattle.mime_load.specs.ParentLists.{Adding, AddsParents, Entries, IsBefore, IsParentEntry, IsGood}
 use Rattle.mime_load.specs.Parts.{RecordAt}
 use Rattle.mime_load.proofs.RecordLemmas.{list_said, records_more}
 
@@ -49,7 +49,7 @@ entries_none c first previous = record {
 
 -- one more entry
 pub entries_more : (c : List ℕ) (first i : ℕ) (previous kind : List ℕ) (before after : Pairs) → Entries c first i previous before
-    → (0 < i → text_lt previous kind ≡ true) → IsEntry c (first + 8 * i) kind before after → Entries c first (i + 1) kind after
+    → (0 < i → text_lt previous kind ≡ true) → IsParentEntry c (first + 8 * i) kind before after → Entries c first (i + 1) kind after
 entries_more c first i previous kind before after e rises one =
     let added = one.adds.added in
     let run : PlainRun = (kind, one.adds.added) in
@@ -198,7 +198,7 @@ adding_more c first i at kind target before mid after a is place one =
 
 -- all parents of a type were added
 pub adding_whole : (c : List ℕ) (at count i : ℕ) (kind : List ℕ) (before after : Pairs) → Adding c (at + 4) i kind before after
-    → CardsAt (Stands c) at (count ∷ []) → i ≡ count → 0 < count → Adds c at kind before after
+    → CardsAt (Stands c) at (count ∷ []) → i ≡ count → 0 < count → AddsParents c at kind before after
 adding_whole c at count i kind before after a head all some = record {
   added = a.added;
   whole = a.whole;

@@ -9,7 +9,7 @@ use Rattle.mime_base.specs.Format.Sorted.{text_lt}
 use Rattle.mime_store.specs.Runs.{IsRun, PlainRun, second_text}
 use Rattle.mime_view.proofs.ParentsLemmas.Subclasses.{kinds_have_parents, kinds_once}
 use Rattle.mime_view.proofs.SearchLemmas.Lookups.{neither_less}
-use Rattle.mime_load.specs.ParentLists.{Entries, EntryStands, IsEntry}
+use Rattle.mime_load.specs.ParentLists.{Entries, EntryStands, IsParentEntry}
 use Rattle.mime_load.proofs.ParentSums.{parent_count, parents_sum}
 use Rattle.mime_load.proofs.RecordLemmas.{record_at}
 use Rattle.mime_load.proofs.ParentCounts.{next_count}
@@ -65,7 +65,7 @@ module _ (c : List ℕ) (at : ℕ) (pairs : Pairs) (list : ParentsAt (Stands c) 
         (parents pairs (get_or list.kinds (i - 1) [])) (run_entry c there (get_or e.runs (i - 1) d) run) entry).kinds
 
     -- a type that was read next is after it
-    pub next_rises : (kind : List ℕ) (after : Pairs) → IsEntry c (at + 4 + 8 * i) kind read after → 0 < i
+    pub next_rises : (kind : List ℕ) (after : Pairs) → IsParentEntry c (at + 4 + 8 * i) kind read after → 0 < i
         → text_lt previous kind ≡ false → ⊥
     next_rises kind after one some falls =
         let there : ℕ = at + 4 + 8 * i in

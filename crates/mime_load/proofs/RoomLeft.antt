@@ -1,20 +1,14 @@
 -- What is left of the room after a part was read, by what stands there.
 use Rattle.std.proofs.Common.{◌≡◌, ℕ, ◌+◌, ◌*◌, List, length, arith}
 use Rattle.std.proofs.lemmas.List.{length-map}
-use Rattle.mime_base.specs.Cache.Bytes.{Stands}
 use Rattle.mime_base.specs.Database.Lent.{plain_rule}
-use Rattle.mime_base.specs.Format.Pairs.{PairsAt}
-use Rattle.mime_base.specs.Format.Parents.{ParentsAt}
 use Rattle.mime_base.specs.Format.SuffixTree.{tree_size}
 use Rattle.mime_base.specs.declared.database.lent.LentRule.{LentRule}
 use Rattle.mime_base.specs.declared.database.rule.GlobRule.{GlobRule}
-use Rattle.mime_load.specs.Lent.{plain_leaves, plain_pair, plain_pairs, plain_rules}
-use Rattle.mime_load.specs.Parts.{IsGlobList, IsLiteralList, IsTreeList}
+use Rattle.mime_load.specs.Lent.{plain_leaves, plain_rules}
+use Rattle.mime_load.specs.Parts.{IsLiteralList, IsTreeList}
 use Rattle.mime_load.specs.declared.leaf.LeafRule.{LeafRule}
-use Rattle.mime_load.specs.declared.pair.LentPair.{LentPair}
-use Rattle.mime_load.proofs.PairLemmas.{same_pairs_count}
-use Rattle.mime_load.proofs.ParentCounts.{same_parents_count}
-use Rattle.mime_load.proofs.RuleEntries.{same_globs_count, same_literals_count}
+use Rattle.mime_load.proofs.RuleEntries.{same_literals_count}
 use Rattle.mime_load.proofs.SiblingCounts.{same_tree_size}
 
 module _ (c : List ℕ) (at old new : ℕ) where

@@ -15,7 +15,7 @@ use Rattle.mime_base.specs.Format.Stored.{glob_rules, is_in_globs, is_in_literal
 use Rattle.mime_base.specs.declared.database.lent.LentRule.{LentRule}
 use Rattle.mime_base.specs.declared.database.rule.GlobRule.{GlobRule}
 use Rattle.mime_load.specs.Lent.{plain_rules}
-use Rattle.mime_load.specs.Parts.{IsGlobList, IsLiteral, IsLiteralList, RecordAt}
+use Rattle.mime_load.specs.Parts.{IsGlobList, IsStoredLiteral, IsLiteralList, RecordAt}
 use Rattle.mime_load.proofs.RecordLemmas.{record_at}
 use Rattle.mime_load.proofs.RuleLists.{all_kept, stored_before}
 use Rattle.mime_load.proofs.SameLemmas.{same_numbers}
@@ -84,7 +84,7 @@ same_globs_count c at rules others one other =
 -- rules that were read, and the next of a sorted list: it is not before the last of them
 module _ (c : List ℕ) (at : ℕ) (entries : List GlobRule) (list : ListAt (Stands c) 12 (IsRule (Stands c)) at entries)
     (sorted : IsSortedBy stored_before entries) (items : List LentRule) (rule : LentRule)
-    (stand : RecordsAt (Stands c) 12 (IsRule (Stands c)) (at + 4) (plain_rules items)) (fit : All IsLiteral (plain_rules items))
+    (stand : RecordsAt (Stands c) 12 (IsRule (Stands c)) (at + 4) (plain_rules items)) (fit : All IsStoredLiteral (plain_rules items))
     (some : 0 < length items) (within : length items < length entries) where
   -- the last of them is the entry before the next
   last_text : (get_or items (length items - 1) rule).pattern.now ≡ stored_text (get_or entries (length items - 1) no_rule)

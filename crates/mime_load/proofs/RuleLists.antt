@@ -17,7 +17,7 @@ use Rattle.mime_base.specs.declared.database.lent.LentRule.{LentRule}
 use Rattle.mime_base.specs.declared.database.rule.GlobRule.{GlobRule}
 use Rattle.mime_base.specs.Database.Lent.{plain_rule}
 use Rattle.mime_load.specs.Lent.{plain_rules}
-use Rattle.mime_load.specs.Parts.{IsLiteral, IsRuleAt}
+use Rattle.mime_load.specs.Parts.{IsStoredLiteral, IsStoredRule}
 
 -- the number of a weight and a flag
 pub flags_are : (flags weight : ℕ) (cased : Bool) → flags < 512 → weight ≡ flags % 256 → cased ≡ nat_le 256 flags
@@ -32,7 +32,7 @@ flags_are flags weight cased small is flag = rw flag (by (nat_le 256 flags) refl
 pub rule_at : (c : List ℕ) (at text kind flags : ℕ) (rule : GlobRule) → CardsAt (Stands c) at (text ∷ kind ∷ flags ∷ []) → flags < 512
     → rule.weight ≡ flags % 256 → rule.cased ≡ nat_le 256 flags → TextAt (Stands c) text rule.pattern
     → compared rule.cased rule.pattern ≡ rule.pattern → All (λ b. b < 256) rule.pattern → TextAt (Stands c) kind rule.kind
-    → IsRuleAt c at rule
+    → IsStoredRule c at rule
 rule_at c at text kind flags rule cards small weight cased pattern stored bytes type =
     let is = flags_are flags rule.weight rule.cased small weight cased in
     record {
@@ -66,7 +66,7 @@ abbrev pub stored_before : GlobRule → GlobRule → Bool
 stored_before left right = text_lt (stored_text left) (stored_text right)
 
 -- one more rule that is not before the last
-pub sorted_pushed : (before after : List LentRule) (rule : LentRule) → after ≡ before ++ rule ∷ [] → All IsLiteral (plain_rules before)
+pub sorted_pushed : (before after : List LentRule) (rule : LentRule) → after ≡ before ++ rule ∷ [] → All IsStoredLiteral (plain_rules before)
     → stored_text (plain_rule rule) ≡ (plain_rule rule).pattern → IsSortedBy stored_before (plain_rules before)
     → ((d : LentRule) → 0 < length before → text_lt rule.pattern.now (get_or before (length before - 1) d).pattern.now ≡ false)
     → IsSortedBy stored_before (plain_rules after)
@@ -88,8 +88,8 @@ sorted_pushed before after rule is fit stored sorted last =
         rw (stored, same, here) (last rule (omega (arith, size)))
 
 -- literal rules in that order are those of a literal list
-pub literals_by_text : (rules : List GlobRule) → All IsLiteral rules → IsSortedBy stored_before rules
+pub literals_by_text : (rules : List GlobRule) → All IsStoredLiteral rules → IsSortedBy stored_before rules
     → IsSortedByText stored_text (literal_rules rules) rules
 literals_by_text rules fit sorted =
-    let all = all_kept is_in_literals rules (All-weaker IsLiteral (λ rule. is_in_literals rule ≡ true) (λ rule one. one.1) rules fit) in
+    let all = all_kept is_in_literals rules (All-weaker IsStoredLiteral (λ rule. is_in_literals rule ≡ true) (λ rule one. one.1) rules fit) in
     rw all (record { permuted = IsPermutation-refl rules; in_order = sorted; ties = λ text. refl })

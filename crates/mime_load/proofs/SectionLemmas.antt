@@ -5,7 +5,7 @@ use Rattle.std.proofs.lemmas.Bool.{and_from, and_parts}
 use Rattle.std.proofs.lemmas.List.{length-map, map_push}
 use Rattle.mime_base.specs.Cache.Bytes.{Stands, fields}
 use Rattle.mime_base.specs.Cache.Texts.{text_at}
-use Rattle.mime_base.specs.Format.Magic.{IsSection, width}
+use Rattle.mime_base.specs.Format.Magic.{IsSectionRecord, width}
 use Rattle.mime_base.specs.Format.Records.{CardsAt, RecordsAt, Standing}
 use Rattle.mime_base.specs.Magic.Extent.{sections_extent}
 use Rattle.mime_base.specs.Magic.{PlainSection, are_allowed, are_allowed_sections, forest_of}
@@ -67,7 +67,7 @@ sections_more c first i at xs s before size place one =
     let there : at ≡ first + 16 * length (plain_sections xs) = omega (arith, length-map xs plain_section) in
     subst (SectionsStand c first) (sym (map_push plain_section xs s)) (record {
       stand =
-          records_then (Stands c) 16 (IsSection (Stands c)) first (plain_sections xs) (plain_section s) one.numbers before.stand
+          records_then (Stands c) 16 (IsSectionRecord (Stands c)) first (plain_sections xs) (plain_section s) one.numbers before.stand
           (subst (λ (a : ℕ). CardsAt (Stands c) a one.numbers) there one.stand) one.is;
       allowed = allowed_more (plain_sections xs) (plain_section s) before.allowed one.allowed;
     })

@@ -5,7 +5,7 @@ use Rattle.std.proofs.lemmas.Bool.{and_parts}
 use Rattle.std.proofs.lemmas.List.Sums.{sum_by-append, sum_by-cons}
 use Rattle.mime_base.specs.Cache.Bytes.{Stands, fields}
 use Rattle.mime_base.specs.Cache.Texts.{text_at}
-use Rattle.mime_base.specs.Format.Magic.{IsSection, line_count, width}
+use Rattle.mime_base.specs.Format.Magic.{IsSectionRecord, line_count, width}
 use Rattle.mime_base.specs.Format.Packed.{forest_value_length, matchlet_count, value_length}
 use Rattle.mime_base.specs.Format.Records.{RecordsAt}
 use Rattle.mime_base.specs.Magic.Extent.{sections_extent}
@@ -64,12 +64,12 @@ same_section c at a b one other =
 pub record Behind (c : List ℕ) (at : ℕ) (before all : List PlainSection) : Type 0 where
   pub more : List PlainSection
   pub whole : all ≡ before ++ more
-  pub stand : RecordsAt (Stands c) 16 (IsSection (Stands c)) (at + 16 * length before) more
+  pub stand : RecordsAt (Stands c) 16 (IsSectionRecord (Stands c)) (at + 16 * length before) more
   pub allowed : are_allowed_sections more ≡ true
 
 -- What stands first of sections, and behind it.
 first_of : (c : List ℕ) (at : ℕ) (s : PlainSection) (ss : List PlainSection)
-    → RecordsAt (Stands c) 16 (IsSection (Stands c)) at (s ∷ ss) → are_allowed_sections (s ∷ ss) ≡ true
+    → RecordsAt (Stands c) 16 (IsSectionRecord (Stands c)) at (s ∷ ss) → are_allowed_sections (s ∷ ss) ≡ true
     → SectionStands c at s
 first_of c at s ss h allowed = record {
   numbers = h.0;
@@ -80,13 +80,13 @@ first_of c at s ss h allowed = record {
 
 -- they begin with those that were read
 behind : (c : List ℕ) (at : ℕ) (xs ys : List PlainSection) → length xs ≤ length ys
-    → RecordsAt (Stands c) 16 (IsSection (Stands c)) at xs → are_allowed_sections xs ≡ true
-    → RecordsAt (Stands c) 16 (IsSection (Stands c)) at ys → are_allowed_sections ys ≡ true
+    → RecordsAt (Stands c) 16 (IsSectionRecord (Stands c)) at xs → are_allowed_sections xs ≡ true
+    → RecordsAt (Stands c) 16 (IsSectionRecord (Stands c)) at ys → are_allowed_sections ys ≡ true
     → Behind c at xs ys
 behind c at [] ys short hx ax hy ay = record {
   more = ys;
   whole = refl;
-  stand = subst (λ (a : ℕ). RecordsAt (Stands c) 16 (IsSection (Stands c)) a ys) (omega arith) hy;
+  stand = subst (λ (a : ℕ). RecordsAt (Stands c) 16 (IsSectionRecord (Stands c)) a ys) (omega arith) hy;
   allowed = ay;
 }
 behind c at (x ∷ xs) [] short hx ax hy ay = absurd (omega arith)
@@ -97,7 +97,7 @@ behind c at (x ∷ xs) (y ∷ ys) short hx ax hy ay =
     record {
       more = rest.more;
       whole = ap (λ (s : PlainSection). s ∷ ys) (sym same) ∙ ap (λ (ss : List PlainSection). x ∷ ss) rest.whole;
-      stand = subst (λ (a : ℕ). RecordsAt (Stands c) 16 (IsSection (Stands c)) a rest.more) (omega arith) rest.stand;
+      stand = subst (λ (a : ℕ). RecordsAt (Stands c) 16 (IsSectionRecord (Stands c)) a rest.more) (omega arith) rest.stand;
       allowed = rest.allowed;
     }
 
@@ -126,7 +126,7 @@ next_section c at i there xs ys size within place one other =
     let b = behind c at xs ys (omega arith) one.stand one.allowed other.stand other.allowed in
     next b.more b.whole b.stand b.allowed
   where
-    next : (more : List PlainSection) → ys ≡ xs ++ more → RecordsAt (Stands c) 16 (IsSection (Stands c)) (at + 16 * length xs) more
+    next : (more : List PlainSection) → ys ≡ xs ++ more → RecordsAt (Stands c) 16 (IsSectionRecord (Stands c)) (at + 16 * length xs) more
         → are_allowed_sections more ≡ true → NextSection c there xs ys
     next [] whole stand allowed =
         absurd (omega (arith, size, within, ap (λ (ss : List PlainSection). length ss) whole, ap (λ (ss : List PlainSection). length ss) (append-nil xs)))

@@ -6,6 +6,6 @@ use Rattle.mime_load.specs.declared.unread.Unread.{Unread}
 use Rattle.mime_load.specs.declared.unread.Unread.TheVariants as unread
 
 -- the fault of a part that is not read back
-abbrev pub fault_of : Part → Unread → LoadFault
-fault_of part unread.NotSpelled = load.NoDatabase part
-fault_of part unread.OutOfMemory = load.OutOfMemory
+abbrev pub part_fault : Part → Unread → LoadFault
+part_fault part unread.NotSpelled = load.NoDatabase part
+part_fault part unread.OutOfMemory = load.OutOfMemory

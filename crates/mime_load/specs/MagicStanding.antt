@@ -2,7 +2,7 @@
 use Rattle.std.specs.Prelude.{◌≡◌, ℕ, ◌+◌, Bool, true, ◌&&◌, nat_lt, List}
 use Rattle.mime_base.specs.Cache.Bytes.{Stands}
 use Rattle.mime_base.specs.Format.Header.{HeaderAt, Offsets}
-use Rattle.mime_base.specs.Format.Magic.{IsSection, LinesAt, MagicAt, MaskAt, line_numbers}
+use Rattle.mime_base.specs.Format.Magic.{IsSectionRecord, LinesAt, MagicAt, MaskAt, line_numbers}
 use Rattle.mime_base.specs.Format.Records.{CardsAt, RecordsAt}
 use Rattle.mime_base.specs.Magic.{Forest, PlainLine, PlainSection, are_allowed, are_allowed_sections, fits_word, forest_of, is_allowed, line_from}
 use Rattle.mime_load.specs.Lent.{lent_mask, plain_lines}
@@ -50,12 +50,12 @@ LinesStand c at levels lines = ForestStands c at levels (forest_of (plain_lines 
 pub record SectionStands (c : List ℕ) (at : ℕ) (section : PlainSection) : Type 0 where
   pub numbers : List ℕ
   pub stand : CardsAt (Stands c) at numbers
-  pub is : IsSection (Stands c) section numbers
+  pub is : IsSectionRecord (Stands c) section numbers
   pub allowed : are_allowed 64 section.lines ≡ true
 
 -- Sections stand from an offset on, and magic can spell them.
 pub record SectionsStand (c : List ℕ) (at : ℕ) (sections : List PlainSection) : Type 0 where
-  pub stand : RecordsAt (Stands c) 16 (IsSection (Stands c)) at sections
+  pub stand : RecordsAt (Stands c) 16 (IsSectionRecord (Stands c)) at sections
   pub allowed : are_allowed_sections sections ≡ true
 
 -- The magic list at an offset is of these sections, and magic can spell them.

@@ -8,7 +8,7 @@ use Rattle.mime_base.specs.Format.Sorted.{text_lt}
 use Rattle.mime_store.specs.Runs.{IsRun, OfKind, PlainRun, second_text}
 
 -- The pairs of a type were added, of whose parents a list stands at `at`.
-pub record Adds (c : List ℕ) (at : ℕ) (kind : List ℕ) (before after : List (List ℕ × List ℕ)) : Type 0 where
+pub record AddsParents (c : List ℕ) (at : ℕ) (kind : List ℕ) (before after : List (List ℕ × List ℕ)) : Type 0 where
   pub added : List (List ℕ × List ℕ)
   pub whole : after ≡ before ++ added
   pub some : 0 < length added
@@ -16,12 +16,12 @@ pub record Adds (c : List ℕ) (at : ℕ) (kind : List ℕ) (before after : List
   pub stand : ListAt (Stands c) 4 (IsName (Stands c)) at (map second_text added)
 
 -- The pairs of the type of the entry at `at` were added.
-pub record IsEntry (c : List ℕ) (at : ℕ) (kind : List ℕ) (before after : List (List ℕ × List ℕ)) : Type 0 where
+pub record IsParentEntry (c : List ℕ) (at : ℕ) (kind : List ℕ) (before after : List (List ℕ × List ℕ)) : Type 0 where
   pub kind_at : ℕ
   pub list : ℕ
   pub cards : CardsAt (Stands c) at (kind_at ∷ list ∷ [])
   pub text : TextAt (Stands c) kind_at kind
-  pub adds : Adds c list kind before after
+  pub adds : AddsParents c list kind before after
 
 -- The entry of a type and its parents stands at `at`.
 pub record EntryStands (c : List ℕ) (at : ℕ) (kind : List ℕ) (targets : List (List ℕ)) : Type 0 where

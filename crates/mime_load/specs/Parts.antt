@@ -15,14 +15,14 @@ pub record RecordAt {X : Type 0} (S : Standing) (Is : X → List ℕ → Type 0)
   pub is : Is x numbers
 
 -- the record of a rule stands at `at`, its pattern is as it is stored, and it is one that the text files can spell
-pub record IsRuleAt (c : List ℕ) (at : ℕ) (rule : GlobRule) : Type 0 where
+pub record IsStoredRule (c : List ℕ) (at : ℕ) (rule : GlobRule) : Type 0 where
   pub stand : RecordAt (Stands c) (IsRule (Stands c)) at rule
   pub stored : stored_text rule ≡ rule.pattern
   pub limits : KeepsLimits rule
 
 -- a literal rule, whose pattern is as it is stored
-abbrev pub IsLiteral : GlobRule → Type 0
-IsLiteral rule = (stored_text rule ≡ rule.pattern) × (is_in_literals rule ≡ true)
+abbrev pub IsStoredLiteral : GlobRule → Type 0
+IsStoredLiteral rule = (stored_text rule ≡ rule.pattern) × (is_in_literals rule ≡ true)
 
 -- a list of literal rules stands at `at`
 pub record IsLiteralList (c : List ℕ) (at : ℕ) (rules : List GlobRule) : Type 0 where

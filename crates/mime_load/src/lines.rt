@@ -5,7 +5,7 @@ ghost use Rattle.mime_base.specs.Format.Magic.{width};
 ghost use Rattle.mime_base.specs.Magic.{Forest, PlainLine, bare, forest_of, line};
 ghost use Rattle.mime_load.specs.Lent.{plain_lines};
 ghost use Rattle.mime_load.specs.MagicStanding.{ForestStands, LinesStand};
-ghost use Rattle.mime_load.specs.Taking.{HasRoom, Pays, PaysWide, TakesLines};
+ghost use Rattle.mime_load.specs.Taking.{HasRoomForLines, PaysWide, TakesLines};
 
 use crate::line::{LentLine, with_children};
 use crate::own::own_at;
@@ -33,10 +33,8 @@ pub fn lines_at<'a>(
     ensures taken { IfOk result (λ lines. TakesLines taking.old taking.new (forest_of (plain_lines lines.items))) }
     // Of lines that stand, and with room for them, only memory can be short.
     ensures need { (lines : Forest) → width lines ≡ count → ForestStands source.now.counted.now first levels lines →
-        HasRoom taking.old lines → IfErr result (λ e. e ≡ Unread.OutOfMemory) }
-    // What was looked at was taken.
-    ensures pays { Pays 0 0 taking.old taking.new }
-    // Each record that was visited took sixteen bytes of room at least.
+        HasRoomForLines taking.old lines → IfErr result (λ e. e ≡ Unread.OutOfMemory) }
+    // What was looked at was taken, and each record with sixteen bytes at least.
     ensures wide { PaysWide 0 taking.old taking.new }
 {
     if levels == 0 && count != 0 {
@@ -66,10 +64,8 @@ fn line_at<'a>(
     ensures taken { IfOk result (λ line. TakesLines taking.old taking.new (forest_of (plain_lines (line ∷ [])))) }
     // Of a line that stands, and with room for it, only memory can be short.
     ensures need { (own : PlainLine) (children : Forest) → ForestStands source.now.counted.now at levels (line own children bare) →
-        HasRoom taking.old (line own children bare) → IfErr result (λ e. e ≡ Unread.OutOfMemory) }
-    // What was looked at was taken.
-    ensures pays { Pays 0 0 taking.old taking.new }
-    // Each record that was visited took sixteen bytes of room at least.
+        HasRoomForLines taking.old (line own children bare) → IfErr result (λ e. e ≡ Unread.OutOfMemory) }
+    // What was looked at was taken, and each record with sixteen bytes at least.
     ensures wide { PaysWide 0 taking.old taking.new }
 {
     let own = own_at(source, at, taking)?;

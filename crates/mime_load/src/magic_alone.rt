@@ -8,7 +8,7 @@ ghost use Rattle.mime_base.specs.Format.Spells.{Spells, cache_limit};
 ghost use Rattle.mime_base.specs.Magic.{PlainSection};
 ghost use Rattle.mime_load.specs.Lent.{plain_sections};
 ghost use Rattle.mime_load.specs.MagicStanding.{HasMagic};
-ghost use Rattle.mime_load.specs.Taking.{HasSectionRoom, Pays, PaysWide};
+ghost use Rattle.mime_load.specs.Taking.{HasSectionRoom, PaysFor, PaysWide};
 
 use crate::reading_back::read_header;
 use crate::section::LentSection;
@@ -60,7 +60,7 @@ fn sections_of<'a>(
         IfOk result (λ found. plain_sections found.items ≡ sections) }
     ensures need { (sections : List PlainSection) → HasMagic source.now.counted.now sections → length source.now.counted.now ≤ cache_limit →
         HasSectionRoom taking.old sections → IfErr result (λ e. e ≡ Unread.OutOfMemory) }
-    ensures pays { Pays 2 0 taking.old taking.new }
+    ensures pays { PaysFor 2 0 taking.old taking.new }
     ensures wide { PaysWide 2 taking.old taking.new }
 {
     let header = read_header(source, taking)?;

@@ -7,7 +7,7 @@ ghost use Rattle.mime_base.specs.Format.Packed.{Packed};
 ghost use Rattle.mime_base.specs.Format.Spells.{Spells, cache_limit};
 ghost use Rattle.mime_base.specs.declared.database.rule.GlobRule.{GlobRule};
 ghost use Rattle.mime_load.specs.NameLists.{AreNameLists, HasNames, rule_bytes};
-ghost use Rattle.mime_load.specs.Taking.{Pays};
+ghost use Rattle.mime_load.specs.Taking.{PaysFor};
 
 use crate::leaf::LeafRule;
 use crate::pair::LentPair;
@@ -68,7 +68,7 @@ fn name_lists_of<'a>(source: &Source<'_, 'a>, taking: &mut Taking) -> Result<Nam
     ensures need { (aliases : List (List ℕ × List ℕ)) (rules : List GlobRule) → HasNames source.now.counted.now aliases rules →
         length source.now.counted.now ≤ cache_limit → rule_bytes rules ≤ taking.old.records → IfErr result (λ e. e ≡ Unread.OutOfMemory) }
     // What was looked at was taken, but for the header, the heads of lists, and the aliases.
-    ensures pays { Pays (5 + length source.now.counted.now / 8) (length source.now.counted.now / 4) taking.old taking.new }
+    ensures pays { PaysFor (5 + length source.now.counted.now / 8) (length source.now.counted.now / 4) taking.old taking.new }
 {
     let header = read_header(source, taking)?;
     let aliases = aliases_at(source, header[1], taking)?;

@@ -6,7 +6,7 @@ ghost use Rattle.mime_base.specs.Format.Magic.{MaskAt};
 ghost use Rattle.mime_base.specs.Magic.{PlainLine, fits_mask, fits_word};
 ghost use Rattle.mime_load.specs.Lent.{lent_mask};
 ghost use Rattle.mime_load.specs.MagicStanding.{LineStands, OwnStands, is_spellable};
-ghost use Rattle.mime_load.specs.Taking.{Pays, PaysWide};
+ghost use Rattle.mime_load.specs.Taking.{PaysWide};
 
 use crate::source::Source;
 use crate::taking::{Taking, take_numbers, take_value_bytes};
@@ -40,9 +40,7 @@ pub fn own_at<'a>(source: &Source<'_, 'a>, at: u64, taking: &mut Taking) -> Resu
     // Of a line that stands, and with room for it, only memory can be short.
     ensures need { (own : PlainLine) (count first : ℕ) → LineStands source.now.counted.now at own count first →
         32 ≤ taking.old.records → length own.value ≤ taking.old.value_bytes → IfErr result (λ e. e ≡ Unread.OutOfMemory) }
-    // What was looked at was taken.
-    ensures pays { Pays 0 0 taking.old taking.new }
-    // Each record that was visited took sixteen bytes of room at least.
+    // What was looked at was taken, and each record with sixteen bytes at least.
     ensures wide { PaysWide 0 taking.old taking.new }
 {
     let [start, range, word, size, value, mask, count, first] = take_numbers::<8>(

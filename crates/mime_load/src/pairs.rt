@@ -6,7 +6,7 @@ ghost use Rattle.mime_base.specs.Format.Pairs.{IsPair, PairsAt};
 ghost use Rattle.mime_base.specs.Format.Sorted.{text_lt};
 ghost use Rattle.mime_load.specs.Lent.{plain_pair, plain_pairs};
 ghost use Rattle.mime_load.specs.Parts.{RecordAt};
-ghost use Rattle.mime_load.specs.Taking.{Pays};
+ghost use Rattle.mime_load.specs.Taking.{OnlyLooks, TakesOnlyRecords};
 ghost use Rattle.mime_load.specs.declared.pair.LentPair.{LentPair};
 
 use crate::order::text_lt;
@@ -30,12 +30,8 @@ pub fn aliases_at<'a>(
     // Of pairs that stand there only memory can be short.
     ensures need { (pairs : List (List ℕ × List ℕ)) → PairsAt (Stands source.now.counted.now) at pairs →
         IfErr result (λ e. e ≡ Unread.OutOfMemory) }
-    // They take no room.
-    ensures taken { taking.new.records ≡ taking.old.records }
-    // Nor that of values.
-    ensures value_bytes { taking.new.value_bytes ≡ taking.old.value_bytes }
-    // At most a record for each eight bytes of the cache was visited, and a text for each four read.
-    ensures pays { Pays (1 + length source.now.counted.now / 8) (length source.now.counted.now / 4) taking.old taking.new }
+    // At most a record for each eight bytes of the cache is visited, and a text for each four read; no room is taken.
+    ensures looks { OnlyLooks (1 + length source.now.counted.now / 8) (length source.now.counted.now / 4) taking.old taking.new }
 {
     pairs_at(source, u64::from(at), taking)
 }
@@ -53,10 +49,8 @@ pub fn icons_at<'a>(
         8 * length pairs ≤ taking.old.records → IfErr result (λ e. e ≡ Unread.OutOfMemory) }
     // They take eight bytes each.
     ensures taken { IfOk result (λ pairs. taking.new.records + 8 * length pairs.items ≡ taking.old.records) }
-    // They take no room of values.
-    ensures value_bytes { taking.new.value_bytes ≡ taking.old.value_bytes }
-    // At most a record for each eight bytes of the cache was visited, and a text for each four read.
-    ensures pays { Pays (1 + length source.now.counted.now / 8) (length source.now.counted.now / 4) taking.old taking.new }
+    // No room of values is taken; at most a record for each eight bytes of the cache is visited, and a text for each four read.
+    ensures takes { TakesOnlyRecords (1 + length source.now.counted.now / 8) (length source.now.counted.now / 4) taking.old taking.new }
 {
     let pairs = pairs_at(source, u64::from(at), taking)?;
     take_records(ICON * pairs.len() as u64, taking)?;
@@ -73,9 +67,7 @@ fn pairs_at<'a>(
     ensures stand { IfOk result (λ pairs. PairsAt (Stands source.now.counted.now) at (plain_pairs pairs.items)) }
     ensures need { (pairs : List (List ℕ × List ℕ)) → PairsAt (Stands source.now.counted.now) at pairs →
         IfErr result (λ e. e ≡ Unread.OutOfMemory) }
-    ensures records { taking.new.records ≡ taking.old.records }
-    ensures value_bytes { taking.new.value_bytes ≡ taking.old.value_bytes }
-    ensures pays { Pays (1 + length source.now.counted.now / 8) (length source.now.counted.now / 4) taking.old taking.new }
+    ensures looks { OnlyLooks (1 + length source.now.counted.now / 8) (length source.now.counted.now / 4) taking.old taking.new }
 {
     let count = read_count(source, at, 8, taking)?;
     let mut pairs = Vec::with_capacity(source.alloc, count as usize)?;
@@ -111,9 +103,7 @@ fn read_pair<'a>(
     ensures stands { IfOk result (λ pair. RecordAt (Stands source.now.counted.now) (IsPair (Stands source.now.counted.now)) at (plain_pair pair)) }
     ensures need { (pair : List ℕ × List ℕ) → RecordAt (Stands source.now.counted.now) (IsPair (Stands source.now.counted.now)) at pair →
         IfErr result (λ e. e ≡ Unread.OutOfMemory) }
-    ensures records { taking.new.records ≡ taking.old.records }
-    ensures value_bytes { taking.new.value_bytes ≡ taking.old.value_bytes }
-    ensures pays { Pays 1 2 taking.old taking.new }
+    ensures looks { OnlyLooks 1 2 taking.old taking.new }
 {
     let numbers = read_numbers::<2>(source, at, taking)?;
     let [first, second] = numbers;

@@ -6,9 +6,9 @@ ghost use Rattle.mime_base.specs.Format.Parents.{IsName, ParentsAt};
 ghost use Rattle.mime_base.specs.Format.Records.{ListAt};
 ghost use Rattle.mime_base.specs.Format.Sorted.{text_lt};
 ghost use Rattle.mime_load.specs.Lent.{plain_pairs};
-ghost use Rattle.mime_load.specs.ParentLists.{Adds, EntryStands, IsEntry};
+ghost use Rattle.mime_load.specs.ParentLists.{AddsParents, EntryStands, IsParentEntry};
 ghost use Rattle.mime_load.specs.Parts.{RecordAt};
-ghost use Rattle.mime_load.specs.Taking.{Pays};
+ghost use Rattle.mime_load.specs.Taking.{OnlyLooks, TakesOnlyRecords};
 
 use crate::order::text_lt;
 use crate::pair::LentPair;
@@ -34,10 +34,8 @@ pub fn parents_at<'a>(
         4 * length pairs ≤ taking.old.records → IfErr result (λ e. e ≡ Unread.OutOfMemory) }
     // They take four bytes each.
     ensures taken { IfOk result (λ pairs. taking.new.records + 4 * length pairs.items ≡ taking.old.records) }
-    // They take no room of values.
-    ensures value_bytes { taking.new.value_bytes ≡ taking.old.value_bytes }
-    // Besides, at most a record for each four bytes of the cache was visited, and a text for each eight read.
-    ensures pays { Pays (1 + length source.now.counted.now / 4) (length source.now.counted.now / 8) taking.old taking.new }
+    // No room of values is taken; besides, at most a record for each four bytes of the cache is visited, and a text for each eight read.
+    ensures takes { TakesOnlyRecords (1 + length source.now.counted.now / 4) (length source.now.counted.now / 8) taking.old taking.new }
 {
     let start = u64::from(at);
     let count = read_count(source, start, 8, taking)?;
@@ -70,10 +68,9 @@ fn read_entry<'a>(
 ) -> Result<&'a [u8], Unread>
     ensures need { (kind : List ℕ) (targets : List (List ℕ)) → EntryStands source.now.counted.now at kind targets → 0 < length targets →
         4 * length targets ≤ taking.old.records → IfErr result (λ e. e ≡ Unread.OutOfMemory) }
-    ensures entry { IfOk result (λ kind. IsEntry source.now.counted.now at kind.now (plain_pairs pairs.old.items) (plain_pairs pairs.new.items)) }
+    ensures entry { IfOk result (λ kind. IsParentEntry source.now.counted.now at kind.now (plain_pairs pairs.old.items) (plain_pairs pairs.new.items)) }
     ensures taken { IfOk result (λ kind. taking.new.records + 4 * length pairs.new.items ≡ taking.old.records + 4 * length pairs.old.items) }
-    ensures value_bytes { taking.new.value_bytes ≡ taking.old.value_bytes }
-    ensures pays { Pays 2 1 taking.old taking.new }
+    ensures takes { TakesOnlyRecords 2 1 taking.old taking.new }
 {
     let numbers = read_numbers::<2>(source, at, taking)?;
     let [first, list] = numbers;
@@ -94,10 +91,9 @@ fn read_parents<'a>(
     ensures need { (targets : List (List ℕ)) →
         ListAt (Stands source.now.counted.now) 4 (IsName (Stands source.now.counted.now)) at targets →
         0 < length targets → 4 * length targets ≤ taking.old.records → IfErr result (λ e. e ≡ Unread.OutOfMemory) }
-    ensures adds { IfOk result (λ _. Adds source.now.counted.now at kind.now (plain_pairs pairs.old.items) (plain_pairs pairs.new.items)) }
+    ensures adds { IfOk result (λ _. AddsParents source.now.counted.now at kind.now (plain_pairs pairs.old.items) (plain_pairs pairs.new.items)) }
     ensures taken { IfOk result (λ _. taking.new.records + 4 * length pairs.new.items ≡ taking.old.records + 4 * length pairs.old.items) }
-    ensures value_bytes { taking.new.value_bytes ≡ taking.old.value_bytes }
-    ensures pays { Pays 1 0 taking.old taking.new }
+    ensures takes { TakesOnlyRecords 1 0 taking.old taking.new }
 {
     let count = read_count(source, at, PARENT, taking)?;
     if count == 0 {
@@ -120,9 +116,7 @@ fn read_parent<'a>(
     ensures stands { IfOk result (λ target. RecordAt (Stands source.now.counted.now) (IsName (Stands source.now.counted.now)) at target.now) }
     ensures need { (target : List ℕ) → RecordAt (Stands source.now.counted.now) (IsName (Stands source.now.counted.now)) at target →
         IfErr result (λ e. e ≡ Unread.OutOfMemory) }
-    ensures records { taking.new.records ≡ taking.old.records }
-    ensures value_bytes { taking.new.value_bytes ≡ taking.old.value_bytes }
-    ensures pays { Pays 1 1 taking.old taking.new }
+    ensures looks { OnlyLooks 1 1 taking.old taking.new }
 {
     let numbers = read_numbers::<1>(source, at, taking)?;
     let [text] = numbers;

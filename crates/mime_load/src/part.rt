@@ -1,7 +1,7 @@
 //! The parts of a cache, and why none is read back.
 
 ghost use Rattle.std.specs.Prelude.{◌≡◌};
-ghost use Rattle.mime_load.specs.Faults.{fault_of};
+ghost use Rattle.mime_load.specs.Faults.{part_fault};
 
 use crate::unread::Unread;
 use thiserror::Error;
@@ -43,7 +43,7 @@ pub enum LoadFault {
 /// The fault of a part.
 pub fn fault_of(part: Part, fault: Unread) -> LoadFault
     // Memory is no fault of a part; any other fault names it.
-    ensures { result ≡ fault_of part fault }
+    ensures { result ≡ part_fault part fault }
 {
     match fault {
         Unread::NotSpelled => LoadFault::NoDatabase(part),

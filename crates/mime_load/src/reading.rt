@@ -3,7 +3,7 @@
 ghost use Rattle.std.specs.Prelude.{◌≡◌, ◌*◌, ◌+◌, ◌^◌, ◌≤◌, ◌<◌, [], ◌∷◌, ℕ, List, length, IfErr, IfOk, OnErr};
 ghost use Rattle.mime_base.specs.Cache.Bytes.{Stands};
 ghost use Rattle.mime_base.specs.Format.Records.{CardsAt, TextAt};
-ghost use Rattle.mime_load.specs.Taking.{Pays};
+ghost use Rattle.mime_load.specs.Taking.{OnlyLooks};
 
 use crate::source::Source;
 use crate::taking::Taking;
@@ -21,12 +21,8 @@ pub fn read_numbers<const N: usize>(
     ensures stand { IfOk result (λ numbers. CardsAt (Stands source.now.counted.now) at numbers) }
     // Or it does not lie in the cache.
     ensures fault { OnErr result (length source.now.counted.now < at + 4 * N) }
-    // No room is taken.
-    ensures records { taking.new.records ≡ taking.old.records }
-    // Nor that of values.
-    ensures value_bytes { taking.new.value_bytes ≡ taking.old.value_bytes }
-    // One record was visited.
-    ensures pays { Pays 1 0 taking.old taking.new }
+    // One record is visited, and no room is taken.
+    ensures looks { OnlyLooks 1 0 taking.old taking.new }
 {
     let numbers = source.counted.record::<N>(at, &mut taking.meter)?;
     Ok(numbers)
@@ -42,12 +38,8 @@ pub fn read_text<'a>(
     ensures stands { IfOk result (λ text. TextAt (Stands source.now.counted.now) at text.now) }
     // A text that stands is read.
     ensures need { (text : List ℕ) → TextAt (Stands source.now.counted.now) at text → IfErr result (λ e. e ≡ Unread.OutOfMemory) }
-    // No room is taken.
-    ensures records { taking.new.records ≡ taking.old.records }
-    // Nor that of values.
-    ensures value_bytes { taking.new.value_bytes ≡ taking.old.value_bytes }
-    // One text was read.
-    ensures pays { Pays 0 1 taking.old taking.new }
+    // One text is read, and no room is taken.
+    ensures looks { OnlyLooks 0 1 taking.old taking.new }
 {
     let text = source.counted.text_at(u64::from(at), &mut taking.meter)?;
     Ok(text)
@@ -71,12 +63,8 @@ pub fn read_count(
     // The count of records that lie in the cache is read.
     ensures need { (count : ℕ) → CardsAt (Stands source.now.counted.now) at (count ∷ []) →
         at + 4 + size * count ≤ length source.now.counted.now → IfErr result (λ e. e ≡ Unread.OutOfMemory) }
-    // No room is taken.
-    ensures records { taking.new.records ≡ taking.old.records }
-    // Nor that of values.
-    ensures value_bytes { taking.new.value_bytes ≡ taking.old.value_bytes }
-    // One record was visited.
-    ensures pays { Pays 1 0 taking.old taking.new }
+    // One record is visited, and no room is taken.
+    ensures looks { OnlyLooks 1 0 taking.old taking.new }
 {
     let numbers = read_numbers::<1>(source, at, taking)?;
     let [count] = numbers;

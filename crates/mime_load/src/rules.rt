@@ -12,8 +12,8 @@ ghost use Rattle.mime_base.specs.declared.database.lent.LentRule.{LentRule};
 ghost use Rattle.mime_base.specs.declared.database.rule.GlobRule.{GlobRule};
 ghost use Rattle.mime_base.specs.Database.Lent.{plain_rule};
 ghost use Rattle.mime_load.specs.Lent.{plain_rules};
-ghost use Rattle.mime_load.specs.Parts.{IsGlobList, IsLiteralList, IsRuleAt, RecordAt};
-ghost use Rattle.mime_load.specs.Taking.{Pays};
+ghost use Rattle.mime_load.specs.Parts.{IsGlobList, IsLiteralList, IsStoredRule, RecordAt};
+ghost use Rattle.mime_load.specs.Taking.{TakesOnlyRecords};
 
 use crate::order::text_lt;
 use crate::reading::{read_count, read_numbers, read_text};
@@ -38,10 +38,8 @@ pub fn literals_at<'a>(
         IfErr result (λ e. e ≡ Unread.OutOfMemory) }
     // They take twelve bytes each.
     ensures taken { IfOk result (λ rules. taking.new.records + 12 * length rules.items ≡ taking.old.records) }
-    // They take no room of values.
-    ensures value_bytes { taking.new.value_bytes ≡ taking.old.value_bytes }
-    // One record was visited besides.
-    ensures pays { Pays 1 0 taking.old taking.new }
+    // No room of values is taken, and one record is visited besides.
+    ensures takes { TakesOnlyRecords 1 0 taking.old taking.new }
 {
     let start = u64::from(at);
     let count = read_count(source, start, RULE, taking)?;
@@ -69,10 +67,8 @@ pub fn globs_at<'a>(
         IfErr result (λ e. e ≡ Unread.OutOfMemory) }
     // They take twelve bytes each.
     ensures taken { IfOk result (λ rules. taking.new.records + 12 * length rules.items ≡ taking.old.records) }
-    // They take no room of values.
-    ensures value_bytes { taking.new.value_bytes ≡ taking.old.value_bytes }
-    // One record was visited besides.
-    ensures pays { Pays 1 0 taking.old taking.new }
+    // No room of values is taken, and one record is visited besides.
+    ensures takes { TakesOnlyRecords 1 0 taking.old taking.new }
 {
     let start = u64::from(at);
     let count = read_count(source, start, RULE, taking)?;
@@ -128,13 +124,12 @@ fn read_rule<'a>(
     at: u64,
     taking: &mut Taking,
 ) -> Result<LentRule<'a>, Unread>
-    ensures stands { IfOk result (λ rule. IsRuleAt source.now.counted.now at (plain_rule rule)) }
+    ensures stands { IfOk result (λ rule. IsStoredRule source.now.counted.now at (plain_rule rule)) }
     ensures need { (rule : GlobRule) → RecordAt (Stands source.now.counted.now) (IsRule (Stands source.now.counted.now)) at rule →
         KeepsLimits rule →
         12 ≤ taking.old.records → IfErr result (λ e. e ≡ Unread.OutOfMemory) }
     ensures taken { IfOk result (λ rule. taking.new.records + 12 ≡ taking.old.records) }
-    ensures value_bytes { taking.new.value_bytes ≡ taking.old.value_bytes }
-    ensures pays { Pays 0 0 taking.old taking.new }
+    ensures takes { TakesOnlyRecords 0 0 taking.old taking.new }
 {
     take_records(RULE, taking)?;
     let numbers = read_numbers::<3>(source, at, taking)?;

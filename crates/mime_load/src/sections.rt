@@ -4,7 +4,7 @@ ghost use Rattle.std.specs.Prelude.{◌≡◌, ◌<◌, ◌≤◌, ℕ, ◌+◌,
 ghost use Rattle.mime_base.specs.Magic.{PlainSection};
 ghost use Rattle.mime_load.specs.Lent.{plain_section, plain_sections};
 ghost use Rattle.mime_load.specs.MagicStanding.{MagicStands, SectionStands, SectionsStand};
-ghost use Rattle.mime_load.specs.Taking.{HasSectionRoom, Pays, PaysWide, TakesSections};
+ghost use Rattle.mime_load.specs.Taking.{HasSectionRoom, PaysWide, TakesSections};
 
 use crate::extent::sections_extent;
 use crate::lines::lines_at;
@@ -36,9 +36,7 @@ pub fn sections_at<'a>(
     // And no others are given.
     ensures whole { (sections : List PlainSection) → MagicStands source.now.counted.now at sections →
         IfOk result (λ found. plain_sections found.items ≡ sections) }
-    // One record was visited besides.
-    ensures pays { Pays 1 0 taking.old taking.new }
-    // Each record but one that was visited took sixteen bytes of room at least.
+    // One record is visited besides; each other took sixteen bytes of room at least.
     ensures wide { PaysWide 1 taking.old taking.new }
 {
     let [count, extent, first] = source
@@ -63,7 +61,6 @@ fn sections_from<'a>(
         HasSectionRoom taking.old sections → IfErr result (λ e. e ≡ Unread.OutOfMemory) }
     ensures count { IfOk result (λ sections. length sections.items ≡ count) }
     ensures taken { IfOk result (λ sections. TakesSections taking.old taking.new (plain_sections sections.items)) }
-    ensures pays { Pays 0 0 taking.old taking.new }
     ensures wide { PaysWide 0 taking.old taking.new }
 {
     let mut sections = Vec::new(source.alloc);
@@ -85,7 +82,6 @@ fn section_at<'a>(
     ensures need { (section : PlainSection) → SectionStands source.now.counted.now at section →
         HasSectionRoom taking.old (section ∷ []) → IfErr result (λ e. e ≡ Unread.OutOfMemory) }
     ensures taken { IfOk result (λ section. TakesSections taking.old taking.new (plain_section section ∷ [])) }
-    ensures pays { Pays 0 0 taking.old taking.new }
     ensures wide { PaysWide 0 taking.old taking.new }
 {
     let [priority, kind, count, first] = take_numbers::<4>(source, at, SECTION, taking)?;

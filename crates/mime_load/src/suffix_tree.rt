@@ -9,8 +9,8 @@ ghost use Rattle.mime_base.specs.Format.Tree.{Tree, node_count, sibling_count};
 ghost use Rattle.mime_base.specs.declared.database.rule.GlobRule.{GlobRule};
 ghost use Rattle.mime_load.specs.Lent.{plain_leaf, plain_leaves};
 ghost use Rattle.mime_load.specs.Parts.{IsTreeList};
-ghost use Rattle.mime_load.specs.Taking.{Pays};
-ghost use Rattle.mime_load.specs.Walks.{IsLeafRule, IsNext, TreeStands, Walked, first_character, first_nodes, is_suffix};
+ghost use Rattle.mime_load.specs.Taking.{OnlyLooks, TakesOnlyRecords};
+ghost use Rattle.mime_load.specs.Walks.{IsLeafRule, ReadsSibling, TreeStands, Walked, first_character, first_nodes, is_suffix};
 
 use crate::ending::NameEnding;
 use crate::leaf::LeafRule;
@@ -40,23 +40,14 @@ pub fn leaves_at<'a>(
         IfErr result (λ e. e ≡ Unread.OutOfMemory) }
     // Its nodes, leaves included, take twelve bytes each.
     ensures taken { IfOk result (λ rules. taking.new.records + 12 * tree_size (plain_leaves rules.items) ≡ taking.old.records) }
-    // They take no room of values.
-    ensures value_bytes { taking.new.value_bytes ≡ taking.old.value_bytes }
-    // One record was visited besides.
-    ensures pays { Pays 1 0 taking.old taking.new }
+    // No room of values is taken, and one record is visited besides.
+    ensures takes { TakesOnlyRecords 1 0 taking.old taking.new }
 {
     let numbers = read_numbers::<2>(source, u64::from(at), taking)?;
     let [count, first] = numbers;
     let mut ending = NameEnding::none(source.alloc);
     let mut rules = Vec::new(source.alloc);
-    read_siblings(
-        source,
-        u64::from(first),
-        u64::from(count),
-        &mut ending,
-        &mut rules,
-        taking,
-    )?;
+    read_siblings(source, first, count, &mut ending, &mut rules, taking)?;
     rules.reverse();
     Ok(rules)
 }
@@ -65,14 +56,12 @@ pub fn leaves_at<'a>(
 #[cycle(siblings)]
 fn read_siblings<'a>(
     source: &Source<'_, 'a>,
-    first: u64,
-    count: u64,
+    first: u32,
+    count: u32,
     ending: &mut NameEnding,
     rules: &mut Vec<LeafRule<'a>>,
     taking: &mut Taking,
 ) -> Result<(), Unread>
-    requires first { first < 2 ^ 32 }
-    requires count { count < 2 ^ 32 }
     // The ending is no longer than the deepest.
     requires depth { length ending.old ≤ 254 }
     // They stand, and their rules are added, from the last to the first.
@@ -83,12 +72,11 @@ fn read_siblings<'a>(
         12 * node_count tree ≤ taking.old.records → IfErr result (λ e. e ≡ Unread.OutOfMemory) }
     // The ending is then as it was.
     ensures ending_stays { OnOk result (ending.new ≡ ending.old) }
-    ensures value_bytes { taking.new.value_bytes ≡ taking.old.value_bytes }
-    ensures pays { Pays 0 0 taking.old taking.new }
+    ensures takes { TakesOnlyRecords 0 0 taking.old taking.new }
 {
     let mut next = 256;
     for done in 0..count {
-        let at = first + 12 * (count - 1 - done);
+        let at = u64::from(first) + 12 * u64::from(count - 1 - done);
         let before = read_sibling(source, at, next, ending, rules, taking)?;
         next = before;
     }
@@ -109,22 +97,16 @@ fn read_sibling<'a>(
     requires next { (1 ≤ next) × (next ≤ 256) }
     // The ending is no longer than the deepest.
     requires depth { length ending.old ≤ 254 }
-    // It stands before those that were read after it.
-    ensures walked { IfOk result (λ before. (count before_left : ℕ) (first : List GlobRule) →
-        Walked source.now.counted.now (at + 12) count ending.old next first (plain_leaves rules.old.items) before_left taking.old.records →
-        Walked source.now.counted.now at (count + 1) ending.old before first (plain_leaves rules.new.items) before_left taking.new.records) }
+    // It is read before those that were read after it.
+    ensures reads { IfOk result (λ before. ReadsSibling source.now.counted.now at ending.old next before (plain_leaves rules.old.items)
+        (plain_leaves rules.new.items) taking.old.records taking.new.records) }
     // If it stands, with a character below `next` and with room for its nodes, only memory can be short.
     ensures need { (tree : Tree) → TreeStands source.now.counted.now at ending.old tree → 0 < sibling_count tree →
         first_character tree < next →
         12 * first_nodes tree ≤ taking.old.records → IfErr result (λ e. e ≡ Unread.OutOfMemory) }
-    // A sibling before it has a lower character.
-    ensures is_next { IfOk result (λ before. (count : ℕ) → IsNext source.now.counted.now at (count + 1) before) }
-    // The character before it fits.
-    ensures fits { IfOk result (λ before. (1 ≤ before) × (before ≤ 256)) }
     // The ending is then as it was.
     ensures ending_stays { IfOk result (λ before. ending.new ≡ ending.old) }
-    ensures value_bytes { taking.new.value_bytes ≡ taking.old.value_bytes }
-    ensures pays { Pays 0 0 taking.old taking.new }
+    ensures takes { TakesOnlyRecords 0 0 taking.old taking.new }
 {
     take_records(SIBLING, taking)?;
     let numbers = read_numbers::<3>(source, at, taking)?;
@@ -142,14 +124,7 @@ fn read_sibling<'a>(
     }
     let before = rules.len();
     ending.grow(character as u8)?;
-    read_siblings(
-        source,
-        u64::from(third),
-        u64::from(second),
-        ending,
-        rules,
-        taking,
-    )?;
+    read_siblings(source, third, second, ending, rules, taking)?;
     if rules.len() == before {
         return Err(Unread::NotSpelled);
     }
@@ -172,9 +147,7 @@ fn read_leaf<'a>(
     // Of a leaf that stands only memory can be short.
     ensures need { (rule : GlobRule) → IsLeafRule source.now.counted.now kind flags ending.now rule →
         IfErr result (λ e. e ≡ Unread.OutOfMemory) }
-    ensures records { taking.new.records ≡ taking.old.records }
-    ensures value_bytes { taking.new.value_bytes ≡ taking.old.value_bytes }
-    ensures pays { Pays 0 1 taking.old taking.new }
+    ensures looks { OnlyLooks 0 1 taking.old taking.new }
 {
     let kind = read_text(source, kind, taking)?;
     let cased = 256 <= flags;

@@ -6,7 +6,7 @@
 ghost use Rattle.std.specs.Prelude.{◌≡◌, ◌⊎◌, ◌+◌, ◌*◌, ◌<◌, ◌≤◌, IfOk, OnErr, OnOk, length};
 ghost use Rattle.mime_base.specs.Cache.Bytes.{Stands, fields};
 ghost use Rattle.mime_base.specs.Format.Records.{CardsAt};
-ghost use Rattle.mime_load.specs.Taking.{Pays, PaysWide};
+ghost use Rattle.mime_load.specs.Taking.{VisitsRecord};
 
 use crate::source::Source;
 use crate::unread::Unread;
@@ -68,24 +68,16 @@ pub fn take_numbers<const N: usize>(
 ) -> Result<[u32; N], Unread>
     // No record has more than ten.
     requires most { N ≤ 10 }
-    // A record takes four bytes or more.
-    requires some { 4 ≤ bytes }
     // The numbers that are given stand there.
     ensures stand { IfOk result (λ numbers. CardsAt (Stands source.now.counted.now) at numbers) }
     // They are the record's, in their order.
     ensures numbers { IfOk result (λ numbers. numbers ≡ fields source.now.counted.now at N) }
-    // That much was taken, and no value bytes.
+    // That much was taken.
     ensures taken { OnOk result (taking.new.records + bytes ≡ taking.old.records) }
     // Too little is left, or it does not lie in the cache.
     ensures fault { OnErr result ((taking.old.records < bytes) ⊎ (length source.now.counted.now < at + 4 * N)) }
-    // No value byte is taken.
-    ensures value_bytes { taking.new.value_bytes ≡ taking.old.value_bytes }
-    // No byte is counted.
-    ensures no_bytes { taking.new.meter.bytes ≡ taking.old.meter.bytes }
-    // What was looked at was taken.
-    ensures pays { Pays 0 0 taking.old taking.new }
-    // A record of sixteen bytes and more took as many at least.
-    ensures wide { 16 ≤ bytes → PaysWide 0 taking.old taking.new }
+    // What was visited was taken, and nothing else.
+    ensures visits { VisitsRecord bytes taking.old taking.new }
 {
     if taking.records < bytes {
         return Err(Unread::NotSpelled);

@@ -8,3 +8,4 @@ pub mod Outcomes
 pub mod EnoughFronts
 pub mod Wants
 pub mod NamesAlone
+pub mod NameLookUps

@@ -10,4 +10,5 @@ pub mod Types
 pub mod RuleKinds
 pub mod IndexTypes
 pub mod Targets
+pub mod TargetSteps
 pub mod ReadLists

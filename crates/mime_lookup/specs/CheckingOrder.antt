@@ -1,6 +1,6 @@
 -- The checking order: which type a name and a content have, and how much of the content is read.
 use Rattle.std.specs.Prelude.{◌≡◌, ◌⊎◌, ℕ, Bool, true, false, nat_le, if◌then◌else◌, min, max, List, [], ◌∷◌, length, bytes_eq}
-use Rattle.std.specs.Prelude.{Option, None, Some, MatchOption}
+use Rattle.std.specs.Prelude.{Option, None, Some, IfSome, MatchOption}
 use Rattle.std.specs.List.{list_all}
 use Rattle.mime_base.specs.Database.{PlainDatabase, pairs_of}
 use Rattle.mime_base.specs.Magic.Extent.{extent}
@@ -8,6 +8,7 @@ use Rattle.mime_base.specs.Magic.Holds.{first_magic}
 use Rattle.mime_base.specs.Database.Subclass.{resolved}
 use Rattle.mime_base.specs.declared.magic.host.Host.{Host}
 use Rattle.mime_lookup.specs.Choice.{ChoosesAmong, candidates, kept}
+use Rattle.mime_lookup.specs.Content.{MayBe, known_content}
 use Rattle.mime_lookup.specs.Sniffing.{sniffed}
 use Rattle.mime_lookup.specs.declared.order.Order.{Order}
 use Rattle.mime_lookup.specs.declared.order.Order.TheVariants.{AllGlobs, ContentOnly, GlobsFirst, MagicFirst}
@@ -53,6 +54,14 @@ pub record IsSniffed (b : PlainDatabase) (content : Option (List ℕ)) (host : H
   pub high : (if found.is_high then Some found.kind.now else None) ≡ before_globs b content host MagicFirst
   -- Whether a section gave it.
   pub magic : found.by_magic ≡ has_magic b content host
+
+-- What a content is sniffed as, of which not all need be known.
+pub record IsSniffedFor {R : Type 0} (remaining : R → Option (List ℕ)) (b : PlainDatabase) (content : Option R) (host : Host)
+    (found : Sniffed) : Type 0 where
+  -- It is what the content is sniffed as, where that is known.
+  pub sniffed : IfSome (known_content remaining content) (λ known. IsSniffed b known host found)
+  -- Whatever is known of the content, it is what some content is sniffed as.
+  pub some : (some : Option (List ℕ)) × MayBe content some × IsSniffed b some host found
 
 -- the answer to a name and a content, where there is one; under AllGlobs candidates that are one type are the answer whichever are
 -- asked, since the kept ones are the first of them

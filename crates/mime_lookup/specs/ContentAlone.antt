@@ -1,5 +1,5 @@
 -- What a content is sniffed as by itself over a cache of any bytes, with the priority of the section that holds.
-use Rattle.std.specs.Prelude.{◌≡◌, ◌⊎◌, ℕ, ◌<◌, ◌≤◌, max, min, List, length, Option, Some, option_map, Result}
+use Rattle.std.specs.Prelude.{◌≡◌, ◌⊎◌, ℕ, ◌<◌, ◌≤◌, max, min, List, length, Option, Some, option_map, Result, Ok, Err}
 use Rattle.std.specs.Prelude.{IfErr, IfOk, IsErrAnd, IsOk, MatchResult, OnOk}
 use Rattle.std.specs.Borrow.{Bor}
 use Rattle.mime_base.specs.Cache.Bytes.{field}
@@ -10,7 +10,7 @@ use Rattle.mime_base.specs.declared.magic.host.Host.{Host}
 use Rattle.mime_base.specs.declared.meter.Meter.{Meter}
 use Rattle.mime_lookup.specs.Asking.{IsOfCache}
 use Rattle.mime_lookup.specs.Bounds.{KeepsBounds, stated_extent}
-use Rattle.mime_lookup.specs.Cached.{IsKind}
+use Rattle.mime_lookup.specs.Cached.{IsKind, cause_of}
 use Rattle.mime_lookup.specs.Sniffing.{sniffed}
 use Rattle.mime_lookup.specs.Spelling.{SpellsMagic}
 use Rattle.mime_lookup.specs.Spent.{UsesUp}
@@ -32,14 +32,30 @@ abbrev pub IsSniffedAs : PlainDatabase → List ℕ → Host → List ℕ → Op
 IsSniffedAs b content host kind priority =
     (kind ≡ sniffed b (Some content) host) × (priority ≡ first_priority b content host)
 
--- where magic and the aliases stand, a step gives what a content is sniffed as, with the priority
-abbrev pub SniffsAs : List ℕ → List ℕ → Host → Result (Bor (List ℕ) × Option ℕ) CacheFault → Type 0
-SniffsAs c content host result = (b : PlainDatabase) → SpellsMagic c b →
-    IfOk result (λ found. IsSniffedAs b content host found.0.now found.1)
+-- What a step answers that sniffs a content.
+pub record SniffsAs (c content : List ℕ) (host : Host) (result : Result (Bor (List ℕ) × Option ℕ) CacheFault) : Type 0 where
+  -- Where magic and the aliases stand, the type and the priority are those of the content.
+  pub answer : (b : PlainDatabase) → SpellsMagic c b → IfOk result (λ found. IsSniffedAs b content host found.0.now found.1)
+  -- On any bytes the type is a text of the cache, or fixed.
+  pub kind : IfOk result (λ found. IsKind c found.0.now)
 
 -- how much is looked at of a content: all of it, up to 128 bytes or the extent that the cache states
 abbrev pub looked_at : List ℕ → List ℕ → ℕ
 looked_at c content = min (length content) (max 128 (stated_extent c))
+
+-- what was found, or the cause, with what it took
+abbrev pub told_content : Result (Bor (List ℕ) × Option ℕ) CacheFault → ℕ → Meter → Result SniffedContent Stopped
+told_content (Ok found) read meter = Ok (record { kind = found.0; priority = found.1; read = read; meter = meter })
+told_content (Err e) read meter = Err (record { cause = cause_of e; read = read; meter = meter })
+
+-- How much of a content a step looks at.
+pub record LooksAtFront {X E : Type 0} (c content : List ℕ) (read : ℕ) (result : Result X E) : Type 0 where
+  -- Nothing is looked at, or just that much.
+  pub looked : (read ≡ 0) ⊎ (read ≡ looked_at c content)
+  -- Nothing is looked at where the head of magic, which states the extent, does not lie in the cache.
+  pub head : 0 < read → LiesHead c (field c 0 6) 12
+  -- For an answer just that much is looked at.
+  pub exact : OnOk result (read ≡ looked_at c content)
 
 -- What is looked at of a content, and what that costs.
 pub record LooksWithin (c content : List ℕ) (read : ℕ) (meter : Meter) : Type 0 where

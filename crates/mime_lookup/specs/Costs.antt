@@ -31,8 +31,15 @@ pub record LooksAt (nodes : ℕ) (old new : Spending) : Type 0 where
   -- The meter rises by no more.
   pub looks : Looks nodes (256 * nodes) old.meter new.meter
 
+-- A step that visits records for a content, and none without one.
+pub record LooksForContent (NoContent : Type 0) (nodes : ℕ) (old new : Spending) : Type 0 where
+  -- Without one it looks at nothing.
+  pub nothing : NoContent → new ≡ old
+  -- Else it visits at most that many records, and takes nothing of the budget.
+  pub looks : LooksAt nodes old new
+
 -- A step that visits no record, and compares at most that many bytes.
-pub record Compares (most : ℕ) (old new : Meter) : Type 0 where
+pub record ComparesAtMost (most : ℕ) (old new : Meter) : Type 0 where
   -- No record is visited.
   pub nodes : new.nodes ≡ old.nodes
   -- The bytes never fall.

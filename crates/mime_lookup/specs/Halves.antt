@@ -24,11 +24,11 @@ use Rattle.mime_view.specs.declared.fault.CacheFault.{CacheFault}
 use Rattle.mime_view.specs.declared.spending.Spending.{Spending}
 
 -- the order under which these are left
-abbrev pub order_of : Candidates → Order
-order_of (Kept kinds) = GlobsFirst
-order_of (Every kinds asked) = AllGlobs
-order_of Unasked = MagicFirst
-order_of Ignored = ContentOnly
+abbrev pub order_left : Candidates → Order
+order_left (Kept kinds) = GlobsFirst
+order_left (Every kinds asked) = AllGlobs
+order_left Unasked = MagicFirst
+order_left Ignored = ContentOnly
 
 -- over a database a name leaves the types that are kept of it, or all, where they are not one type, or all to be asked, or none
 abbrev pub Leaves : PlainDatabase → List ℕ → Candidates → Type 0
@@ -45,19 +45,19 @@ abbrev pub Decides : PlainDatabase → List ℕ → Order → NameDecision → T
 Decides b name order (Decided kind) = (globs_suffice b name order ≡ true)
     × ((content : Option (List ℕ)) (host : Host) → Chooses b name content host order kind.now)
 Decides b name order (Left candidates) =
-    (globs_suffice b name order ≡ false) × (order_of candidates ≡ order) × Leaves b name candidates
+    (globs_suffice b name order ≡ false) × (order_left candidates ≡ order) × Leaves b name candidates
 
 -- the types of candidates are texts of the cache, and no more of them are asked than there are
-abbrev pub AreTexts : List ℕ → Candidates → Type 0
-AreTexts c (Kept kinds) = All (IsCacheText c) kinds
-AreTexts c (Every kinds asked) = All (IsCacheText c) kinds × (asked ≤ length kinds)
-AreTexts c Unasked = ⊤
-AreTexts c Ignored = ⊤
+abbrev pub AreCandidateTexts : List ℕ → Candidates → Type 0
+AreCandidateTexts c (Kept kinds) = All (IsCacheText c) kinds
+AreCandidateTexts c (Every kinds asked) = All (IsCacheText c) kinds × (asked ≤ length kinds)
+AreCandidateTexts c Unasked = ⊤
+AreCandidateTexts c Ignored = ⊤
 
 -- and so are those that a name gives
 abbrev pub AreTextsByName : List ℕ → NameDecision → Type 0
 AreTextsByName c (Decided kind) = IsCacheText c kind.now
-AreTextsByName c (Left candidates) = AreTexts c candidates
+AreTextsByName c (Left candidates) = AreCandidateTexts c candidates
 
 -- the nodes that candidates may still need, for a name of that many bytes: 29 for each type, or those of a search
 abbrev pub owed_nodes : ℕ → Candidates → ℕ

@@ -16,6 +16,7 @@ pub mod Bounds
 pub mod StepFaults
 pub mod Finding
 pub mod Cached
+pub mod Choosing
 pub mod Icons
 pub mod Affords
 pub mod Searching

@@ -60,12 +60,21 @@ pub record IsPlainAnswer (b : PlainDatabase) (name : List ℕ) (content : Option
   -- As many bytes are read as the order says.
   pub read : answer.read ≡ read_of b name content order
 
--- The header is read before anything else.
-pub record OpensFirst {X : Type 0} (c : List ℕ) (result : Result X Cause) : Type 0 where
+-- For which fault a step stops over a cache, whose header comes before anything else; `told` is the error for the header's fault.
+pub record ShowsFault {X E : Type 0} (told : CacheFault → E) (c : List ℕ) (IsFault : E → Type 0) (result : Result X E) : Type 0 where
   -- Bytes that don't open as a cache are refused for that.
-  pub refused : (e : CacheFault) → IsOpenFault c e → IsErrAnd result (λ stop. stop ≡ cause.Cache e)
+  pub refused : (e : CacheFault) → IsOpenFault c e → IsErrAnd result (λ stop. stop ≡ told e)
   -- Where there is an answer they do open.
   pub opened : OnOk result (Opens c)
+  -- It stops for nothing else than such a fault.
+  pub fault : IfErr result IsFault
+
+-- What a lookup over a cache begins with.
+pub record Begins (nodes read : ℕ) (meter : Meter) : Type 0 where
+  -- Nothing was read of a content.
+  pub none : read ≡ 0
+  -- That many records were visited, and nothing was compared.
+  pub visited : meter ≡ record { nodes = nodes; bytes = 0 }
 
 -- What a lookup answers.
 pub record AnswersLookUp {R : Type 0} (remaining : R → Option (List ℕ)) (c name : List ℕ) (content : Option R) (host : Host)

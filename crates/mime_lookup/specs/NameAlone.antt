@@ -1,12 +1,14 @@
 -- What a lookup of a name alone over a cache promises: the type without a content, and how much of one is wanted.
-use Rattle.std.specs.Prelude.{◌≡◌, ◌≢◌, ◌+◌, ◌<◌, ◌≤◌, ℕ, if◌then◌else◌, List, length, None, Result}
+use Rattle.std.specs.Prelude.{◌≡◌, ◌≢◌, ◌+◌, ◌<◌, ◌≤◌, ℕ, if◌then◌else◌, List, length, None, Result, Ok, Err}
 use Rattle.std.specs.Prelude.{IfErr, IfOk, IsErrAnd, MatchResult, OnOk, ⊤}
+use Rattle.std.specs.Borrow.{Bor}
 use Rattle.mime_base.specs.Database.{PlainDatabase}
 use Rattle.mime_base.specs.Format.Packed.{Packed}
 use Rattle.mime_base.specs.declared.magic.host.Host.{Host}
+use Rattle.mime_base.specs.declared.meter.Meter.{Meter}
 use Rattle.mime_lookup.specs.Asking.{IsCaused}
 use Rattle.mime_lookup.specs.Bounds.{KeepsBounds, near_max}
-use Rattle.mime_lookup.specs.Cached.{IsKind}
+use Rattle.mime_lookup.specs.Cached.{IsKind, cause_of}
 use Rattle.mime_lookup.specs.CheckingOrder.{Chooses, GlobsDecide, globs_suffice}
 use Rattle.mime_lookup.specs.LookUps.{name_too_long}
 use Rattle.mime_lookup.specs.Spelling.{SpellsGlobs}
@@ -35,6 +37,22 @@ pub record AnswersName (c name : List ℕ) (order : Order) (kind : List ℕ) (wa
   pub allowed : IsKind c kind
   -- That much of a content is wanted.
   pub wants : IsWanted c name order wanted
+
+-- what was found, or the cause, with what it took; no content is read
+abbrev pub told_name : Result (Bor (List ℕ) × ℕ) CacheFault → Meter → Result NameAnswer Stopped
+told_name (Ok found) meter = Ok (record { kind = found.0; wanted = found.1; meter = meter })
+told_name (Err e) meter = Err (record { cause = cause_of e; read = 0; meter = meter })
+
+-- What a lookup of a name alone costs.
+pub record CostsName {X E : Type 0} (c name : List ℕ) (order : Order) (meter : Meter) (result : Result X E) : Type 0 where
+  -- Whatever the bytes are, the nodes and the bytes keep to the bounds of a lookup that reads nothing.
+  pub bounds : KeepsBounds (length name) c 0 meter
+  -- For an answer the header was visited.
+  pub counted : OnOk result (1 ≤ meter.nodes)
+  -- Where the glob rules stand and decide alone, the nodes keep to the bound by the rules near the name, and one for the extent
+  -- where a content is wanted.
+  pub near : (b : PlainDatabase) → SpellsGlobs c b → GlobsDecide b name order ⊤ →
+      OnOk result (meter.nodes ≤ near_max (length name) (near name b.rules) + (if globs_suffice b name order then 0 else 1))
 
 -- All that is promised of a lookup of a name alone.
 pub record IsNameLookUp (c name : List ℕ) (order : Order) (result : Result NameAnswer Stopped) : Type 0 where

@@ -7,8 +7,8 @@ abbrev pub names_price : ℕ → ℕ
 names_price length = 5 + length / 4 + length / 8
 
 -- twice as many as reading back its magic list may visit
-abbrev pub magic_price : ℕ → ℕ
-magic_price length = 2 + length / 8
+abbrev pub magic_due : ℕ → ℕ
+magic_due length = 2 + length / 8
 
 -- A cache, and what is owed before more of it is read back.
 pub record PlainPaidCache : Type 0 where
@@ -26,7 +26,7 @@ pub record OwesAll (paid : PlainPaidCache) : Type 0 where
   -- What names need costs so much.
   pub owed_names : paid.names ≡ Some (names_price (length paid.cache))
   -- So does the magic list.
-  pub owed_magic : paid.magic ≡ Some (magic_price (length paid.cache))
+  pub owed_magic : paid.magic ≡ Some (magic_due (length paid.cache))
   -- Entries of the glob list don't pay for it: as many as the list states, if it lies in the cache.
   pub entries : (paid.listed ≡ globs_listed paid.cache) ⊎ (paid.listed ≡ 0)
 

@@ -20,9 +20,9 @@ abbrev pub place_in : {S : Type 0} → HashMap (Bor (List ℕ)) ℕ S → List �
 place_in map name = get_by (λ key. bytes_eq name key.now) map
 
 -- of the pairs from `low` on the first of a name stands here, or there is none
-abbrev pub IsNext : List Pair → List ℕ → ℕ → Option ℕ → Type 0
-IsNext pairs name low None = parents (plain_pairs (drop low pairs)) name ≡ []
-IsNext pairs name low (Some place) =
+abbrev pub IsNextPlace : List Pair → List ℕ → ℕ → Option ℕ → Type 0
+IsNextPlace pairs name low None = parents (plain_pairs (drop low pairs)) name ≡ []
+IsNextPlace pairs name low (Some place) =
     (low ≤ place) × (place < length pairs)
     × (parents (plain_pairs (drop low pairs)) name ≡ parents (plain_pairs (drop place pairs)) name)
     × ((pair : Pair) → pair ≡ get_or pairs place pair → pair.name ≡ name)
@@ -30,10 +30,10 @@ IsNext pairs name low (Some place) =
 -- the pairs from `low` on: the first place of each name, and from the last place to the first the next place of its name
 pub record IsIndexed (pairs : List Pair) (low : ℕ) (first : List ℕ → Option ℕ) (next : List (Option ℕ)) : Type 0 where
   pub size : length next + low ≡ length pairs
-  pub firsts : (name : List ℕ) → IsNext pairs name low (first name)
+  pub firsts : (name : List ℕ) → IsNextPlace pairs name low (first name)
   pub nexts :
       (place k : ℕ) (pair : Pair) → low ≤ place → k + (place + 1) ≡ length pairs → pair ≡ get_or pairs place pair →
-      IsNext pairs pair.name (place + 1) (get_or next k None)
+      IsNextPlace pairs pair.name (place + 1) (get_or next k None)
 
 -- What is kept of some pairs is the places of all of them, and the marks of their names.
 pub record IsPlaced (places : Places) : Type 0 where

@@ -4,20 +4,26 @@ use Rattle.std.specs.Borrow.{Bor}
 use Rattle.mime_base.specs.Database.{PlainDatabase}
 use Rattle.mime_base.specs.declared.meter.Meter.{Meter}
 use Rattle.mime_lookup.specs.Bounds.{near_max}
+use Rattle.mime_lookup.specs.Cached.{IsStop}
 use Rattle.mime_lookup.specs.CheckingOrder.{Chooses, GlobsDecide, globs_suffice, read_of}
 use Rattle.mime_lookup.specs.Content.{Health, Tally, known_content}
-use Rattle.mime_lookup.specs.LookUps.{AnswersLookUp, CostsLookUp, ReadsLookUp}
+use Rattle.mime_lookup.specs.LookUps.{AnswersLookUp, ChoosesSome, CostsLookUp, ReadsLookUp, ShowsFault}
 use Rattle.mime_lookup.specs.NameAlone.{AnswersName, SufficesForName}
+use Rattle.mime_lookup.specs.StepFaults.{IsLookUpFault}
 use Rattle.mime_lookup.specs.Steps.{Stops, Suffices}
 use Rattle.mime_lookup.specs.declared.question.Question.{Question}
 use Rattle.mime_lookup.specs.declared.stopped.Cause.{Cause}
+use Rattle.mime_lookup.specs.declared.stopped.Cause.TheVariants as cause
 use Rattle.mime_view.specs.Hits.{near}
 
--- over a database a question is answered by the type that the order gives, where the content is known
-abbrev pub ChoosesFor : {R : Type 0} → (R → Option (List ℕ)) → PlainDatabase → Question → Option R
-    → Result (Bor (List ℕ)) Cause → Type 0
-ChoosesFor remaining b question content result = IfOk result (λ kind. IfSome (known_content remaining content)
-    (λ known. Chooses b question.name.now known question.host question.order kind.now))
+-- What a lookup over a database answers to a question.
+pub record ChoosesFor {R : Type 0} (remaining : R → Option (List ℕ)) (b : PlainDatabase) (question : Question) (content : Option R)
+    (result : Result (Bor (List ℕ)) Cause) : Type 0 where
+  -- It is the type that the order gives to the name and the whole content, where that is known.
+  pub chosen : IfOk result (λ kind. IfSome (known_content remaining content)
+      (λ known. Chooses b question.name.now known question.host question.order kind.now))
+  -- Whatever is known of the content, the order gives the type to the name and to some content.
+  pub some : IfOk result (λ kind. ChoosesSome b question.name.now content question.host question.order kind.now)
 
 -- over a database as many bytes are read for a question as the order says, where the content is known
 abbrev pub ReadsFor : {R X : Type 0} → (R → Option (List ℕ)) → PlainDatabase → Question → Option R → ℕ → Result X Cause → Type 0
@@ -34,6 +40,11 @@ abbrev pub StopsQuestion : {R : Type 0} → List ℕ → Question → Option R �
 StopsQuestion c question content IsUsed IsAfforded stop =
     Stops IsUsed (λ b. Suffices c question.name.now question.order (content ≡ None) b × IsAfforded b)
     (λ b. GlobsDecide b question.name.now question.order (content ≡ None) → ⊥) stop
+
+-- for which fault of the cache it stops, if not for a read or for memory
+abbrev pub FaultsQuestion : {R X : Type 0} → List ℕ → Question → Option R → Result X Cause → Type 0
+FaultsQuestion c question content result =
+    ShowsFault cause.Cache c (IsStop (IsLookUpFault c question.name.now (content ≡ None))) result
 
 -- what it reads of the content for a question
 abbrev pub ReadsQuestion : {R X : Type 0} → (R → Option (List ℕ)) → (R → Option Tally) → (R → Health) → List ℕ → Question

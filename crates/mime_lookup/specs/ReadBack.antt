@@ -3,8 +3,11 @@ use Rattle.std.specs.Prelude.{◌≡◌, ℕ, List, map, length, bytes_eq}
 use Rattle.std.specs.Borrow.{Bor}
 use Rattle.std.specs.HashMap.{HashMap, get_by}
 use Rattle.std.specs.Option.{option_map_or}
+use Rattle.mime_base.specs.Cache.Bytes.{Stands}
 use Rattle.mime_base.specs.Database.{PlainDatabase, pairs_of}
 use Rattle.mime_base.specs.Database.Subclass.{resolved}
+use Rattle.mime_base.specs.Format.Header.{HeaderAt, Offsets}
+use Rattle.mime_base.specs.Format.Pairs.{PairsAt}
 use Rattle.mime_base.specs.declared.database.rule.GlobRule.{GlobRule}
 use Rattle.mime_lookup.specs.Choice.{kept}
 use Rattle.mime_lookup.specs.Indexed.{unaliased_rule}
@@ -26,8 +29,21 @@ abbrev pub target_rule : {S : Type 0} → HashMap (Bor (List ℕ)) (Bor (List �
 target_rule targets rule =
     record { weight = rule.weight; kind = target_in targets rule.kind; pattern = rule.pattern; cased = rule.cased }
 
+-- Targets are those of the aliases that a cache spells.
+pub record AreTargetsOf {S : Type 0} (c : List ℕ) (targets : HashMap (Bor (List ℕ)) (Bor (List ℕ)) S) : Type 0 where
+  -- Where its parts stand.
+  pub offsets : Offsets
+  -- Its header says so.
+  pub header : HeaderAt (Stands c) offsets
+  -- Its aliases.
+  pub aliases : List (List ℕ × List ℕ)
+  -- They stand there.
+  pub stand : PairsAt (Stands c) offsets.aliases aliases
+  -- Each type goes one alias step by the targets.
+  pub are : AreTargets aliases targets
+
 -- Rules are those of a cache, each with its type after one alias step.
-pub record AreRulesOf (c : List ℕ) (rules : List GlobRule) : Type 0 where
+pub record AreRulesReadBack (c : List ℕ) (rules : List GlobRule) : Type 0 where
   -- What the cache spells.
   pub database : PlainDatabase
   -- It does.

@@ -35,3 +35,11 @@ pub record AsksUnless {R X : Type 0} (health : R → Health) (suffice : Bool) (b
   pub answers : OnOk result (OfReader (λ old _. health old ≡ broken → suffice ≡ true) ⊤ before after)
   -- Where a read stopped it, they didn't.
   pub asked : IfErr result (λ cause. cause ≡ Read → suffice ≡ false)
+
+-- How a lookup uses its reader, within a limit.
+pub record UsesReader {R X : Type 0} (remaining : R → Option (List ℕ)) (tally : R → Option Tally) (health : R → Health)
+    (limit : ℕ) (suffice : Bool) (before after : Option R) (read : ℕ) (result : Result X Cause) : Type 0 where
+  -- It takes no more of it than the limit, tries interrupted reads again, and gives up only where one failed.
+  pub reader : Reads remaining tally health limit before after read result
+  -- It asks it only where the globs do not suffice.
+  pub asks : AsksUnless health suffice before after result

@@ -12,7 +12,6 @@ use Rattle.mime_lookup.specs.Spent.{IsUsedUp}
 use Rattle.mime_lookup.specs.declared.order.Order.{Order}
 use Rattle.mime_lookup.specs.declared.stopped.Cause.{Cause}
 use Rattle.mime_lookup.specs.declared.stopped.Cause.TheVariants as cause
-use Rattle.mime_view.specs.declared.budget.Budget.{Budget}
 use Rattle.mime_view.specs.declared.fault.CacheFault.{CacheFault}
 use Rattle.mime_view.specs.declared.fault.CacheFault.TheVariants.{Spent}
 use Rattle.mime_view.specs.declared.spending.Spending.{Spending}
@@ -37,14 +36,14 @@ pub record Stops (IsUsed : Type 0) (IsEnough IsRead : PlainDatabase → Type 0) 
   -- Where enough of a database stands and is afforded, memory was refused, or a read failed where one is made.
   pub need : (b : PlainDatabase) → IsEnough b → (stop ≡ cause.OutOfMemory) ⊎ ((stop ≡ cause.Read) × IsRead b)
 
--- why a step stops that reads nothing of the content: with this left of the budget, and for memory alone where enough stands
-abbrev pub StopsUnread : {X : Type 0} → List ℕ → Type 0 → Budget → (PlainDatabase → Type 0) → Result X CacheFault → Type 0
-StopsUnread c NoContent left IsEnough result =
-    IfErr result (λ e. Stops (IsUsedUp c NoContent left) IsEnough (λ _. ⊥) (cause_of e))
+-- why a step stops that reads nothing of the content: with this of the budget before and after, and for memory alone where enough stands
+abbrev pub StopsUnread : {X : Type 0} → List ℕ → Type 0 → Spending → Spending → (PlainDatabase → Type 0) → Result X CacheFault → Type 0
+StopsUnread c NoContent old new IsEnough result =
+    IfErr result (λ e. Stops (IsUsedUp c NoContent old.budget new.budget) IsEnough (λ _. ⊥) (cause_of e))
 
 -- why a step stops that sniffs a content: for memory alone where enough stands, and each record and value byte of magic is left
 abbrev pub StopsSniffing : {X : Type 0} → List ℕ → Type 0 → (PlainDatabase → Type 0) → Spending → Spending → Result X CacheFault → Type 0
-StopsSniffing c NoContent IsEnough old new result = StopsUnread c NoContent new.budget (λ b. IsEnough b
+StopsSniffing c NoContent IsEnough old new result = StopsUnread c NoContent old new (λ b. IsEnough b
     × (magic_records b ≤ old.budget.records) × (value_length b.sections ≤ old.budget.value_bytes)) result
 
 -- A database's cache is small enough and packed, so that it affords a lookup.

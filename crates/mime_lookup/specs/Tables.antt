@@ -8,9 +8,9 @@ use Rattle.mime_lookup.specs.declared.indexed.tables.Tables.{Tables}
 
 -- from a line that is named on the next ones that are named lead to another line in that many steps, each after the one before
 -- it, and all after the first `low`
-abbrev pub Leads : ℕ → List ℕ → ℕ → ℕ → ℕ → Type 0
-Leads zero nexts low link line = ⊥
-Leads (suc steps) nexts low link line = (low < link) × ((link ≡ line + 1) ⊎ Leads steps nexts link (slice_index nexts (link - 1)) line)
+abbrev pub LeadsChain : ℕ → List ℕ → ℕ → ℕ → ℕ → Type 0
+LeadsChain zero nexts low link line = ⊥
+LeadsChain (suc steps) nexts low link line = (low < link) × ((link ≡ line + 1) ⊎ LeadsChain steps nexts link (slice_index nexts (link - 1)) line)
 
 -- A line with this head has one place, and this is where the first line of its place and its byte is named.
 pub record IsSlot (places : List ℕ) (slot : ℕ) (head : LineHead) : Type 0 where
@@ -22,22 +22,31 @@ pub record IsSlot (places : List ℕ) (slot : ℕ) (head : LineHead) : Type 0 wh
   pub slot_is : slot ≡ table * 256 + head.first
 
 -- A line with this head is found from its slot on.
-pub record IsFound (tables : Tables) (low line : ℕ) (head : LineHead) : Type 0 where
+pub record IsInTable (tables : Tables) (low line : ℕ) (head : LineHead) : Type 0 where
   pub slot : ℕ
   pub is : IsSlot tables.places.items slot head
   pub steps : ℕ
-  pub leads : Leads steps tables.nexts.items low (slice_index tables.firsts.items slot) line
+  pub leads : LeadsChain steps tables.nexts.items low (slice_index tables.firsts.items slot) line
 
 -- Each line from `low` on is found or is one of the others.
 pub record AreTables (tables : Tables) (heads : List LineHead) (low : ℕ) : Type 0 where
   pub size : length tables.nexts.items ≡ length heads
   pub slots : length tables.firsts.items ≡ length tables.places.items * 256
   pub each : (line : ℕ) (head : LineHead) → low ≤ line → line < length heads → head ≡ get_or heads line head
-      → Contains tables.others.items line ⊎ IsFound tables low line head
+      → Contains tables.others.items line ⊎ IsInTable tables low line head
+
+-- One of the tables is there, with the links of the lines.
+pub record HasTable (tables : Tables) (lines table : ℕ) : Type 0 where
+  -- Each line has its link.
+  pub size : length tables.nexts.items ≡ lines
+  -- The table has its place.
+  pub place : table < length tables.places.items
+  -- It has a slot for each byte.
+  pub slots : table * 256 + 256 ≤ length tables.firsts.items
 
 -- a line doesn't hold
-abbrev pub Fails : List PlainTop → List ℕ → Host → ℕ → Type 0
-Fails tops content host line =
+abbrev pub FailsLine : List PlainTop → List ℕ → Host → ℕ → Type 0
+FailsLine tops content host line =
     (top : PlainTop) → line < length tops → top ≡ get_or tops line top → line_holds top.line content host ≡ false
 
 -- a line holds
@@ -48,7 +57,7 @@ Holds tops content host line =
 -- of the lines that a line leads to, itself and those after it, none before `until` holds
 abbrev pub ChainFails : List PlainTop → List ℕ → Host → List ℕ → ℕ → ℕ → Type 0
 ChainFails tops content host nexts link until =
-    (line steps : ℕ) → Leads steps nexts 0 link line → line < until → Fails tops content host line
+    (line steps : ℕ) → LeadsChain steps nexts 0 link line → line < until → FailsLine tops content host line
 
 -- of the lines that a table names for the byte that stands at its place none before `until` holds
 abbrev pub TableFails : List PlainTop → List ℕ → Host → Tables → ℕ → ℕ → Type 0
@@ -64,7 +73,7 @@ TablesFail tops content host tables until end = (table : ℕ) → table < end �
 -- of the lines asked by themselves, from this one on, none before `until` holds
 abbrev pub OthersFail : List PlainTop → List ℕ → Host → List ℕ → ℕ → ℕ → Type 0
 OthersFail tops content host others until from =
-    (i : ℕ) → from ≤ i → i < length others → slice_index others i < until → Fails tops content host (slice_index others i)
+    (i : ℕ) → from ≤ i → i < length others → slice_index others i < until → FailsLine tops content host (slice_index others i)
 
 -- A line that was found to hold is none after the one before it.
 pub record Narrows (tops : List PlainTop) (content : List ℕ) (host : Host) (old new : ℕ) : Type 0 where
@@ -74,5 +83,5 @@ pub record Narrows (tops : List PlainTop) (content : List ℕ) (host : Host) (ol
 -- No line before `first` holds, and that one does, if there is one.
 pub record IsFirst (tops : List PlainTop) (content : List ℕ) (host : Host) (first : ℕ) : Type 0 where
   pub within : first ≤ length tops
-  pub before : (line : ℕ) → line < first → Fails tops content host line
+  pub before : (line : ℕ) → line < first → FailsLine tops content host line
   pub holds : first < length tops → Holds tops content host first

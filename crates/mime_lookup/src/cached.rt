@@ -1,23 +1,20 @@
 //! Lookup over the bytes of a cache, whatever they are.
 
-ghost use Rattle.std.specs.Prelude.{◌≡◌, ◌+◌, ◌<◌, ◌≤◌, IfErr, IfOk, None, OnOk, false, length, max, option_map};
-ghost use Rattle.mime_base.specs.Cache.Bytes.{field};
+ghost use Rattle.std.specs.Prelude.{◌≡◌, ◌+◌, ◌<◌, IfErr, IfOk, None, OnOk, length, option_map};
 ghost use Rattle.mime_base.specs.Database.{PlainDatabase};
 ghost use Rattle.mime_lookup.specs.Affords.{Affords};
-ghost use Rattle.mime_lookup.specs.Bounds.{stated_extent};
-ghost use Rattle.mime_lookup.specs.Costs.{CostsSearch, LooksAt};
-ghost use Rattle.mime_lookup.specs.Fronts.{ReadsFront};
+ghost use Rattle.mime_lookup.specs.Cached.{IsStop};
+ghost use Rattle.mime_lookup.specs.Costs.{CostsSearch, LooksForContent};
+ghost use Rattle.mime_lookup.specs.Fronts.{ReadsFront, TakesFront};
 ghost use Rattle.mime_lookup.specs.Headline.{IsHeadline};
-ghost use Rattle.mime_lookup.specs.LookUps.{AnswersLookUp, CostsLookUp, OpensFirst, ReadsLookUp, StopsLookUp, cause_in, meter_in, read_in};
-ghost use Rattle.mime_lookup.specs.Question.{AnswersQuestion, CostsQuestion, IsDecided, ReadsQuestion, StopsQuestion, near_most};
-ghost use Rattle.mime_lookup.specs.Reads.{AsksUnless, Reads};
+ghost use Rattle.mime_lookup.specs.LookUps.{AnswersLookUp, Begins, CostsLookUp, ReadsLookUp, StopsLookUp};
+ghost use Rattle.mime_lookup.specs.LookUps.{cause_in, meter_in, read_in};
+ghost use Rattle.mime_lookup.specs.Question.{AnswersQuestion, CostsQuestion, FaultsQuestion, IsDecided, ReadsQuestion, StopsQuestion};
+ghost use Rattle.mime_lookup.specs.Question.{near_most};
 ghost use Rattle.mime_lookup.specs.Spelling.{SpellsGlobs};
 ghost use Rattle.mime_lookup.specs.Spent.{IsUsedUp, UsesUp};
-ghost use Rattle.mime_lookup.specs.Cached.{IsStop};
 ghost use Rattle.mime_lookup.specs.StepFaults.{IsLookUpFault, IsMagicHeadFault};
 ghost use Rattle.mime_lookup.specs.Steps.{IsPacked, Stops, SufficesForContent};
-ghost use Rattle.mime_view.specs.Hits.{near};
-ghost use Rattle.mime_view.specs.Lists.{LiesHead};
 
 mod again;
 mod ancestry;
@@ -108,7 +105,6 @@ pub fn look_up<'a, R: Content>(
 }
 
 /// The type of a name and a content by the bytes of a cache, and how many bytes of the content were read.
-#[tactic(auto, using(crate::proofs::StopLemmas::OpenFaults::opens_without_fault))]
 fn open_and_find<'a, R: Content>(
     alloc: Global,
     cache: Counted<'a>,
@@ -117,13 +113,11 @@ fn open_and_find<'a, R: Content>(
     read: &mut u64,
     meter: &mut Meter,
 ) -> Result<&'a [u8], Cause>
-    requires none { read.old ≡ 0 }
-    requires fresh { meter.old ≡ record { nodes = 0; bytes = 0 } }
+    requires begins { Begins 0 read.old meter.old }
     ensures answers { IfOk result (λ kind. AnswersQuestion R.remaining cache.entry question.now content.old kind.now) }
-    ensures opens { OpensFirst cache.entry result }
+    ensures faults { FaultsQuestion cache.entry question.now content.old result }
     ensures stops { IfErr result (StopsQuestion cache.entry question.now content.old
         (UsesUp cache.entry (content.old ≡ None) meter.new.nodes) (IsPacked cache.entry)) }
-    ensures fault { IfErr result (IsStop (IsLookUpFault cache.entry question.now.name.now (content.old ≡ None))) }
     ensures reads { ReadsQuestion R.remaining R.tally R.health cache.entry question.now
         content.old content.new read.new result }
     ensures costs { CostsQuestion cache.entry question.now content.old read.new meter.new result }
@@ -143,13 +137,11 @@ fn find_opened<'a, R: Content>(
     read: &mut u64,
     meter: &mut Meter,
 ) -> Result<&'a [u8], Cause>
-    requires none { read.old ≡ 0 }
-    requires header { meter.old ≡ record { nodes = 1; bytes = 0 } }
+    requires begins { Begins 1 read.old meter.old }
     ensures answers { IfOk result (λ kind. AnswersQuestion R.remaining indexed.now question.now content.old kind.now) }
-    ensures opens { OpensFirst indexed.now result }
+    ensures faults { FaultsQuestion indexed.now question.now content.old result }
     ensures stops { IfErr result (StopsQuestion indexed.now question.now content.old
         (UsesUp indexed.now (content.old ≡ None) meter.new.nodes) (IsPacked indexed.now)) }
-    ensures fault { IfErr result (IsStop (IsLookUpFault indexed.now question.now.name.now (content.old ≡ None))) }
     ensures reads { ReadsQuestion R.remaining R.tally R.health indexed.now question.now
         content.old content.new read.new result }
     ensures costs { CostsQuestion indexed.now question.now content.old read.new meter.new result }
@@ -177,7 +169,7 @@ fn find<'a, R: Content>(
     requires none { read.old ≡ 0 }
     ensures answers { IfOk result (λ kind. AnswersQuestion R.remaining indexed.now question.now content.old kind.now) }
     ensures stops { IfErr result (StopsQuestion indexed.now question.now content.old
-        (IsUsedUp indexed.now (content.old ≡ None) spending.new.budget) (λ b. Affords b spending.old.budget)) }
+        (IsUsedUp indexed.now (content.old ≡ None) spending.old.budget spending.new.budget) (λ b. Affords b spending.old.budget)) }
     ensures fault { IfErr result (IsStop (IsLookUpFault indexed.now question.now.name.now (content.old ≡ None))) }
     ensures reads { ReadsQuestion R.remaining R.tally R.health indexed.now question.now
         content.old content.new read.new result }
@@ -211,11 +203,8 @@ fn read_content<R: Content>(
     ensures stops { IfErr result (Stops ⊥ (SufficesForContent indexed.now (content.old ≡ None))
         (λ _. content.old ≡ None → ⊥)) }
     ensures fault { IfErr result (IsStop (λ e. (content.old ≡ None → ⊥) × IsMagicHeadFault indexed.now e)) }
-    ensures reader { Reads R.remaining R.tally R.health (max 128 (stated_extent indexed.now)) content.old content.new read.new result }
-    ensures asks { AsksUnless R.health false content.old content.new result }
-    ensures head { 0 < read.new → LiesHead indexed.now (field indexed.now 0 6) 12 }
-    ensures nothing { content.old ≡ None → spending.new ≡ spending.old }
-    ensures cost { LooksAt 1 spending.old spending.new }
+    ensures takes { TakesFront R.remaining R.tally R.health indexed.now content.old content.new read.new result }
+    ensures costs { LooksForContent (content.old ≡ None) 1 spending.old spending.new }
 {
     let Some(reader) = content else {
         return Ok(None);

@@ -14,7 +14,7 @@ ghost use Rattle.mime_lookup.specs.Choice.{ChoosesAmong};
 ghost use Rattle.mime_lookup.specs.Content.{known_content};
 ghost use Rattle.mime_lookup.specs.LookUps.{ChoosesSome, IsPlainAnswer, cause_in, meter_in, name_too_long, read_in};
 ghost use Rattle.mime_lookup.specs.Question.{ChoosesFor, ReadsFor};
-ghost use Rattle.mime_lookup.specs.Reads.{AsksUnless, IsReadOrMemory, Reads};
+ghost use Rattle.mime_lookup.specs.Reads.{AsksUnless, IsReadOrMemory, Reads, UsesReader};
 
 use crate::answer::Answer;
 use crate::asked::Asked;
@@ -81,20 +81,14 @@ fn kind_of<'a, A: Asked<'a>, R: Content>(
     // Nothing was read.
     requires none { read.old ≡ 0 }
     // The type is the one that the checking order gives to the name and the whole content, where that is known.
-    ensures chosen { ChoosesFor R.remaining (A.plain database.now) question.now content.old result }
-    // Whatever is known of the content, the order gives the type to the name and to some content.
-    ensures some { IfOk result (λ kind. ChoosesSome (A.plain database.now) question.now.name.now content.old
-        question.now.host question.now.order kind.now) }
+    ensures answers { ChoosesFor R.remaining (A.plain database.now) question.now content.old result }
     // It reads as much of it as the order says.
     ensures read { ReadsFor R.remaining (A.plain database.now) question.now content.old read.new result }
     // It stops only for a read or for memory.
     ensures causes { IfErr result IsReadOrMemory }
-    // It takes no more of its reader than magic and the test for text can look at, and gives up only where a read failed.
-    ensures reader { Reads R.remaining R.tally R.health (read_limit (A.plain database.now))
-        content.old content.new read.new result }
-    // It asks its reader only where the globs do not suffice.
-    ensures asks { AsksUnless R.health (globs_suffice (A.plain database.now) question.now.name.now question.now.order)
-        content.old content.new result }
+    // It takes no more of its reader than magic and the test for text can look at, and asks it only where the globs do not suffice.
+    ensures uses { UsesReader R.remaining R.tally R.health (read_limit (A.plain database.now))
+        (globs_suffice (A.plain database.now) question.now.name.now question.now.order) content.old content.new read.new result }
     // No record of a cache is visited.
     ensures nodes { meter.new.nodes ≡ meter.old.nodes }
 {

@@ -12,8 +12,8 @@
 //! whole content, of which it reads no more than magic can look at; [`Content`] is what it reads from,
 //! and may tell whether its reads can fail. [`look_up_name`] is a lookup without a content, which says too how much of
 //! one would be read. [`is_a`] and [`icon_of`] go by the same bytes. [`look_up_again`] is the lookup for
-//! many names and contents, over an [`IndexedCache`], and so are [`look_up_name_again`] and [`sniff_again`]; [`is_a_again`] and
-//! [`icon_again`] are over an opened cache. A [`PaidCache`] is read back once its answers have paid for that.
+//! many names and contents, over an [`IndexedCache`], and so are [`look_up_name_again`], [`sniff_again`], [`is_a_again`] and
+//! [`icon_again`]. A [`PaidCache`] is read back once its answers have paid for that.
 //! [`look_up_plain`] answers the same by trying every rule, line and pair of a database, and [`look_up_indexed`] and
 //! [`is_a_indexed`] by an [`IndexedDatabase`] that is made of one for many questions. A [`MagicIndex`] is made of the magic
 //! that was read back from a cache.

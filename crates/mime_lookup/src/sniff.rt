@@ -1,9 +1,9 @@
 //! What a content is sniffed as ("Recommended checking order").
 
-ghost use Rattle.std.specs.Prelude.{◌≡◌, ℕ, false, List, Option, IfErr, IfOk, IfSome, OnOk, Some};
-ghost use Rattle.mime_lookup.specs.CheckingOrder.{IsSniffed, front_size, read_limit};
-ghost use Rattle.mime_lookup.specs.Content.{MayBe, known_content};
-ghost use Rattle.mime_lookup.specs.Reads.{AsksUnless, IsReadOrMemory, Reads};
+ghost use Rattle.std.specs.Prelude.{◌≡◌, false, IfErr, IfOk, IfSome, OnOk, Some};
+ghost use Rattle.mime_lookup.specs.CheckingOrder.{IsSniffed, IsSniffedFor, front_size, read_limit};
+ghost use Rattle.mime_lookup.specs.Content.{known_content};
+ghost use Rattle.mime_lookup.specs.Reads.{IsReadOrMemory, UsesReader};
 ghost use Rattle.mime_lookup.specs.Sniffing.{FrontIsEnough, sniffed_by_bytes};
 
 use crate::asked::Asked;
@@ -48,22 +48,16 @@ pub fn sniff_content<'a, A: Asked<'a>, R: Content>(
 ) -> Result<Sniffed<'a>, Cause>
     // Nothing was read.
     requires none { read.old ≡ 0 }
-    // It is what the content is sniffed as.
-    ensures sniffed { IfOk result (λ found. IfSome (known_content R.remaining content.old)
-        (λ known. IsSniffed (A.plain database.now) known host found)) }
-    // Whatever is known of the content, it is what some content is sniffed as.
-    ensures some { IfOk result (λ found. (some : Option (List ℕ)) × MayBe content.old some
-        × IsSniffed (A.plain database.now) some host found) }
+    // It is what the content is sniffed as, where that is known.
+    ensures answers { IfOk result (IsSniffedFor R.remaining (A.plain database.now) content.old host) }
     // As much is read as magic can look at.
     ensures read { OnOk result (IfSome (known_content R.remaining content.old)
         (λ known. read.new ≡ front_size (A.plain database.now) known)) }
     // It stops only for a read or for memory.
     ensures causes { IfErr result IsReadOrMemory }
-    // It takes no more of its reader than that, and gives up only where a read failed.
-    ensures reader { Reads R.remaining R.tally R.health (read_limit (A.plain database.now))
+    // It takes no more of its reader than that, and asks it.
+    ensures uses { UsesReader R.remaining R.tally R.health (read_limit (A.plain database.now)) false
         content.old content.new read.new result }
-    // It asks its reader.
-    ensures asks { AsksUnless R.health false content.old content.new result }
     // No record of a cache is visited.
     ensures nodes { meter.new.nodes ≡ meter.old.nodes }
 {

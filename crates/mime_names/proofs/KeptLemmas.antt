@@ -13,8 +13,8 @@ use Rattle.mime_base.specs.declared.database.rule.GlobRule.{GlobRule}
 use Rattle.mime_base.proofs.FallingLemmas.Order.{falling-map}
 use Rattle.mime_base.proofs.KeptLemmas.{of_greatest-rank_of_rule}
 use Rattle.mime_base.proofs.KeptLemmas.Greatest.{of_greatest-map, of_greatest-none}
-use Rattle.mime_names.specs.Index.{rules_of, texts_of}
-use Rattle.mime_names.specs.Rules.{IsIndexedRule, every, hits_of, is_match, is_text, offer_of, others, plain, texts}
+use Rattle.mime_names.specs.Index.{rules_of_index, texts_of}
+use Rattle.mime_names.specs.Rules.{IsIndexedRule, every, hits_of, is_match, is_text_rule, offer_of, others, plain, texts}
 use Rattle.mime_names.specs.declared.indexed_rule.IndexedRule.{IndexedRule}
 use Rattle.mime_names.proofs.NearLemmas.{hit_more}
 use Rattle.mime_names.proofs.RankLemmas.{greatest-texts}
@@ -93,12 +93,12 @@ filter-none {X} p q (x ∷ xs) none = by_cases (p x) (q x) (filter-none p q xs) 
 
 module _ (patterns : List ℕ) (rules : List IndexedRule) (name : List ℕ) where
   -- the hits of the plain rules
-  hits-plain : hits (rules_of patterns rules) name ≡ map (plain patterns) (hits_of patterns (every patterns) rules name)
+  hits-plain : hits (rules_of_index patterns rules) name ≡ map (plain patterns) (hits_of patterns (every patterns) rules name)
   hits-plain = filter-map (plain patterns) (λ rule. rule_matches rule.pattern rule.cased name) rules
 
   -- the types of all by falling rank
   pub candidates-kinds : texts_of (map (λ offer. offer.1) (falling (λ offer. offer.0) (map (offer_of patterns) (hits_of patterns (every patterns) rules name))))
-      ≡ map (λ rule. rule.kind) (candidate_rules (rules_of patterns rules) name)
+      ≡ map (λ rule. rule.kind) (candidate_rules (rules_of_index patterns rules) name)
   unfolding candidate_rules
   candidates-kinds =
       let found = hits_of patterns (every patterns) rules name in
@@ -111,9 +111,9 @@ module _ (patterns : List ℕ) (rules : List IndexedRule) (name : List ℕ) wher
 
   module _ (own : All (IsIndexedRule patterns) rules) where
     -- every hit has its room in a rank
-    fits : All FitsRank (hits (rules_of patterns rules) name)
+    fits : All FitsRank (hits (rules_of_index patterns rules) name)
     fits =
-        All-filter (λ rule. rule_matches rule.pattern rule.cased name) FitsRank (rules_of patterns rules)
+        All-filter (λ rule. rule_matches rule.pattern rule.cased name) FitsRank (rules_of_index patterns rules)
         (All-map FitsRank (plain patterns) rules (All-weaker (IsIndexedRule patterns) (λ rule. FitsRank (plain patterns rule)) (λ rule is. is.fits) rules own))
 
     -- the types of the greatest rank of some rules
@@ -126,19 +126,19 @@ module _ (patterns : List ℕ) (rules : List IndexedRule) (name : List ℕ) wher
         ∙ ap (map (λ (rule : GlobRule). rule.kind)) (sym (of_greatest-map rank_of_rule (plain patterns) found))
 
     -- the hits that are texts
-    texts-plain : filter is_text (hits (rules_of patterns rules) name) ≡ map (plain patterns) (hits_of patterns (texts patterns) rules name)
+    texts-plain : filter is_text_rule (hits (rules_of_index patterns rules) name) ≡ map (plain patterns) (hits_of patterns (texts patterns) rules name)
     texts-plain =
-        ap (filter is_text) hits-plain
-        ∙ filter-map (plain patterns) is_text (hits_of patterns (every patterns) rules name)
+        ap (filter is_text_rule) hits-plain
+        ∙ filter-map (plain patterns) is_text_rule (hits_of patterns (every patterns) rules name)
         ∙ ap (map (plain patterns)) (filter-both (texts patterns) (is_match patterns name) rules)
 
     -- where a text matches, the types of the greatest rank among texts are those of the kept rules
     pub kept-texts : 0 < length (hits_of patterns (texts patterns) rules name) →
         texts_of (map (λ rule. rule.kind) (of_greatest (λ rule. rank_of_rule (plain patterns rule)) (hits_of patterns (texts patterns) rules name)))
-        ≡ map (λ rule. rule.kind) (kept_rules (rules_of patterns rules) name)
+        ≡ map (λ rule. rule.kind) (kept_rules (rules_of_index patterns rules) name)
     unfolding kept_rules
     kept-texts some =
-        let found = hits (rules_of patterns rules) name in
+        let found = hits (rules_of_index patterns rules) name in
         kinds-plain (hits_of patterns (texts patterns) rules name)
         ∙ ap (map (λ (rule : GlobRule). rule.kind))
         (ap (of_greatest rank_of_rule) (sym texts-plain)
@@ -148,11 +148,11 @@ module _ (patterns : List ℕ) (rules : List IndexedRule) (name : List ℕ) wher
     -- where none does, those among all others are
     pub kept-others : hits_of patterns (texts patterns) rules name ≡ [] →
         texts_of (map (λ rule. rule.kind) (of_greatest (λ rule. rank_of_rule (plain patterns rule)) (hits_of patterns (others patterns) rules name)))
-        ≡ map (λ rule. rule.kind) (kept_rules (rules_of patterns rules) name)
+        ≡ map (λ rule. rule.kind) (kept_rules (rules_of_index patterns rules) name)
     unfolding kept_rules
     kept-others none =
         kinds-plain (hits_of patterns (others patterns) rules name)
         ∙ ap (map (λ (rule : GlobRule). rule.kind))
         (ap (λ found. of_greatest rank_of_rule (map (plain patterns) found)) (filter-none (texts patterns) (is_match patterns name) rules none)
         ∙ ap (of_greatest rank_of_rule) (sym hits-plain)
-        ∙ of_greatest-rank_of_rule (hits (rules_of patterns rules) name) fits)
+        ∙ of_greatest-rank_of_rule (hits (rules_of_index patterns rules) name) fits)

@@ -5,8 +5,8 @@ use Rattle.std.proofs.lemmas.List.Elements.{Contains-get_or}
 use Rattle.std.proofs.lemmas.List.Sorted.{Contains-permutation, IsPermutation-sym}
 use Rattle.std.specs.List.{Contains}
 use Rattle.std.specs.List.Sorted.{IsNonDecreasing, IsPermutation}
-use Rattle.mime_names.specs.Chains.{AreBelow, Gathers}
-use Rattle.mime_names.specs.Places.{AreSorted}
+use Rattle.mime_names.specs.Chains.{AreBelow, GathersPlaces}
+use Rattle.mime_names.specs.Places.{AreSortedPlaces}
 
 -- no place is below nothing
 none : {xs : List ℕ} {n : ℕ} → xs ≡ [] → AreBelow n xs
@@ -17,8 +17,8 @@ nothing : {xs : List ℕ} → xs ≡ [] → (p : ℕ) → Contains xs p → ⊥
 nothing is p has = omega (arith, has.1, ap length is)
 
 -- what was gathered from nothing on is the same in order
-pub sorted_places : (Passes : ℕ → Type 0) (keys start found sorted : List ℕ) → start ≡ [] → Gathers Passes keys start found →
-    IsPermutation found sorted → IsNonDecreasing sorted → AreSorted Passes keys sorted
+pub sorted_places : (Passes : ℕ → Type 0) (keys start found sorted : List ℕ) → start ≡ [] → GathersPlaces Passes keys start found →
+    IsPermutation found sorted → IsNonDecreasing sorted → AreSortedPlaces Passes keys sorted
 sorted_places Passes keys start found sorted empty gathered moved rise = record {
   rise = rise;
   below = λ i inside.

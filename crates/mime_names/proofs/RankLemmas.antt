@@ -6,7 +6,7 @@ use Rattle.mime_base.specs.Kept.{FitsRank, class_of, of_greatest, rank, rank_of_
 use Rattle.mime_base.specs.declared.database.rule.GlobRule.{GlobRule}
 use Rattle.mime_base.specs.declared.kept.class.Class.{Class}
 use Rattle.mime_base.specs.declared.kept.class.Class.TheVariants.{Literal, Suffix, Full}
-use Rattle.mime_names.specs.Rules.{is_text, of_texts}
+use Rattle.mime_names.specs.Rules.{is_text_rule, of_texts}
 use Rattle.mime_names.proofs.PartLemmas.{Parts, of_greatest-part}
 
 -- a flag is at most 1
@@ -23,9 +23,9 @@ rank-parts Suffix weight length cased light short = ((λ is. omega arith), (λ i
 rank-parts Full weight length cased light short = ((λ is. absurd cc), (λ is. omega (arith, light, short, flag cased)))
 
 -- of hits of which some are texts, those of the greatest rank are those among these
-pub greatest-texts : (hits : List GlobRule) → All FitsRank hits → 0 < length (filter is_text hits) →
-    of_greatest rank_of_rule hits ≡ of_greatest rank_of_rule (filter is_text hits)
+pub greatest-texts : (hits : List GlobRule) → All FitsRank hits → 0 < length (filter is_text_rule hits) →
+    of_greatest rank_of_rule hits ≡ of_greatest rank_of_rule (filter is_text_rule hits)
 greatest-texts hits fits some =
-    of_greatest-part rank_of_rule is_text 33554432 (omega arith) hits
-    (All-weaker FitsRank (Parts rank_of_rule is_text 33554432 (omega arith))
+    of_greatest-part rank_of_rule is_text_rule 33554432 (omega arith) hits
+    (All-weaker FitsRank (Parts rank_of_rule is_text_rule 33554432 (omega arith))
     (λ rule is. rank-parts (class_of rule.pattern) rule.weight (length rule.pattern) rule.cased is.0 is.1) hits fits) some

@@ -6,7 +6,7 @@ use Rattle.std.proofs.lemmas.List.Elements.{All-push, All-weaker}
 use Rattle.std.proofs.Math.Seq.{drop-append_seam}
 use Rattle.mime_base.specs.Kept.{FitsRank, class_of, rank_of_rule}
 use Rattle.mime_base.specs.declared.database.rule.GlobRule.{GlobRule}
-use Rattle.mime_names.specs.Rules.{IsIndexedRule, pattern_of, plain, plain_named}
+use Rattle.mime_names.specs.Rules.{IsEntryOf, IsIndexedRule, pattern_of, plain, plain_named}
 use Rattle.mime_names.specs.declared.indexed_rule.IndexedRule.{IndexedRule}
 use Rattle.mime_names.specs.declared.named_rule.NamedRule.{NamedRule}
 
@@ -55,25 +55,24 @@ module _ (old more : List ℕ) where
       map-append (plain (old ++ more)) rules (rule ∷ [])
       ∙ ap₂ (λ front own. front ++ own ∷ []) (plains-grow rules own ∙ are) is
 
--- the pattern that comes last
-pub pattern-last : (old more : List ℕ) (rule : IndexedRule) → rule.start ≡ length old → rule.length ≡ length more → pattern_of (old ++ more) rule ≡ more
-pattern-last old more rule start size =
-    ap (λ n. take rule.length (drop n (old ++ more))) start
-    ∙ ap (take rule.length) (drop-append_seam old more)
-    ∙ take_all rule.length more (omega (arith, size))
+module _ (old : List ℕ) (named : NamedRule) (rule : IndexedRule) (start : ℕ) (entry : IsEntryOf named start rule)
+    (last : rule.start ≡ length old) where
+  -- the pattern that comes last
+  pattern-last : pattern_of (old ++ named.pattern.now) rule ≡ named.pattern.now
+  pattern-last =
+      ap (λ n. take rule.length (drop n (old ++ named.pattern.now))) last
+      ∙ ap (take rule.length) (drop-append_seam old named.pattern.now)
+      ∙ take_all rule.length named.pattern.now (omega (arith, entry.size))
 
--- a rule is found as it is made, by the pattern that comes last
-pub indexed-last : (old more : List ℕ) (rule : IndexedRule) (named : GlobRule) → rule.start ≡ length old → rule.length ≡ length more →
-    rule.class ≡ class_of more → rule.rank ≡ rank_of_rule named → plain (old ++ more) rule ≡ named → FitsRank named → IsIndexedRule (old ++ more) rule
-indexed-last old more rule named start size class rank is fits = record {
-  within = omega (arith, start, size, length-append old more);
-  class = class ∙ ap class_of (sym (pattern-last old more rule start size));
-  rank = rank ∙ ap rank_of_rule (sym is);
-  fits = subst FitsRank (sym is) fits;
-}
+  -- its rule has the plain value of the one that it was made of
+  pub plain-last : plain (old ++ named.pattern.now) rule ≡ plain_named named
+  plain-last = λ k. record { weight = entry.weight k; kind = (entry.kind k).now; pattern = pattern-last k; cased = entry.cased k }
 
--- a rule has the plain value of the one that it was made of
-pub plain-made : (patterns : List ℕ) (rule : IndexedRule) (named : NamedRule) → rule.weight ≡ named.weight → rule.kind ≡ named.kind →
-    rule.cased ≡ named.cased → pattern_of patterns rule ≡ named.pattern.now → plain patterns rule ≡ plain_named named
-plain-made patterns rule named weight kind cased pattern =
-    λ k. record { weight = weight k; kind = (kind k).now; pattern = pattern k; cased = cased k }
+  -- and is found as it is made
+  pub indexed-last : FitsRank (plain_named named) → IsIndexedRule (old ++ named.pattern.now) rule
+  indexed-last fits = record {
+    within = omega (arith, last, entry.size, length-append old named.pattern.now);
+    class = entry.class ∙ ap class_of (sym pattern-last);
+    rank = entry.rank ∙ ap rank_of_rule (sym plain-last);
+    fits = subst FitsRank (sym plain-last) fits;
+  }

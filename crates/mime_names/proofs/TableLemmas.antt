@@ -3,8 +3,8 @@ use Rattle.std.proofs.Common.{◌≡◌, ◌⊎◌, inl, inr, ℕ, ◌<◌, ◌�
 use Rattle.std.specs.List.{All}
 use Rattle.std.proofs.lemmas.Bool.{cases_Bool, true≢false}
 use Rattle.mime_names.specs.Chains.{AreBelow}
-use Rattle.mime_names.specs.Keys.{Ends, Fronts, IsTable, IsTableOf}
-use Rattle.mime_names.specs.Places.{AreNear, AreSorted}
+use Rattle.mime_names.specs.Keys.{IsEndKey, Fronts, IsTable, IsTableOf}
+use Rattle.mime_names.specs.Places.{AreNear, AreSortedPlaces}
 use Rattle.mime_names.specs.Rules.{IsIndexedRule, every, of_texts, others, texts}
 use Rattle.mime_names.specs.Tree.{spelled}
 use Rattle.mime_names.specs.declared.indexed_rule.IndexedRule.{IndexedRule}
@@ -17,7 +17,7 @@ pub table_alone : (table : KeyTable) (patterns : List ℕ) (rules : List Indexed
 table_alone table patterns rules is = record { is_tree = is.keyed.is_tree; chained = is.chained; room = is.room }
 
 -- the key of a node is above the others
-ends-high : (tree : Tree) (text : List ℕ) (key : ℕ) → Ends tree text key → 257 ≤ key
+ends-high : (tree : Tree) (text : List ℕ) (key : ℕ) → IsEndKey tree text key → 257 ≤ key
 ends-high tree text key (inl ends) = omega (arith, ends.3)
 ends-high tree text key (inr whole) = omega (arith, whole.1)
 
@@ -29,7 +29,7 @@ fronts-low name key (inr begins) = omega (arith, begins.0)
 module _ (table : KeyTable) (patterns : List ℕ) (rules : List IndexedRule) (is : IsTableOf table patterns rules) (own : All (IsIndexedRule patterns) rules) (name : List ℕ) where
   -- the keys of the endings of the name
   abbrev ends : ℕ → Type 0
-  ends key = Ends table.tree (spelled name) key
+  ends key = IsEndKey table.tree (spelled name) key
 
   -- the class of a rule of them
   class-at : (p : ℕ) (rule : IndexedRule) → p < length rules → rule ≡ get_or rules p rule → of_texts rule.class ≡ texts patterns rule
@@ -52,14 +52,14 @@ module _ (table : KeyTable) (patterns : List ℕ) (rules : List IndexedRule) (is
   ]
 
   -- those of the endings are those of texts
-  pub near-texts : (places : List ℕ) → AreSorted ends table.keys.items places → AreNear patterns (texts patterns) rules name places
+  pub near-texts : (places : List ℕ) → AreSortedPlaces ends table.keys.items places → AreNear patterns (texts patterns) rules name places
   near-texts places sorted =
       near_by_keys patterns (texts patterns) ends table.keys.items places rules name sorted is.keyed.many
       (λ p rule within here text found. (is.keyed.each p rule within here).ends (class-at p rule within here ∙ text) name found)
       (λ p rule within here passes. text-at p rule within here (ends-high table.tree (spelled name) _ passes))
 
   -- those of the front are those of all others
-  pub near-others : (places : List ℕ) → AreSorted (Fronts name) table.keys.items places → AreNear patterns (others patterns) rules name places
+  pub near-others : (places : List ℕ) → AreSortedPlaces (Fronts name) table.keys.items places → AreNear patterns (others patterns) rules name places
   near-others places sorted =
       near_by_keys patterns (others patterns) (Fronts name) table.keys.items places rules name sorted is.keyed.many
       (λ p rule within here other found. (is.keyed.each p rule within here).fronts (class-at p rule within here ∙ negated (texts patterns rule) other) name found)
@@ -70,7 +70,7 @@ module _ (table : KeyTable) (patterns : List ℕ) (rules : List IndexedRule) (is
       negated false is = refl
 
   -- both are those of all
-  pub near-every : (places : List ℕ) → AreSorted (λ key. ends key ⊎ Fronts name key) table.keys.items places → AreNear patterns (every patterns) rules name places
+  pub near-every : (places : List ℕ) → AreSortedPlaces (λ key. ends key ⊎ Fronts name key) table.keys.items places → AreNear patterns (every patterns) rules name places
   near-every places sorted =
       near_by_keys patterns (every patterns) (λ key. ends key ⊎ Fronts name key) table.keys.items places rules name sorted is.keyed.many
       (λ p rule within here any found. elim (cases_Bool (texts patterns rule)) [
@@ -80,5 +80,5 @@ module _ (table : KeyTable) (patterns : List ℕ) (rules : List IndexedRule) (is
       (λ p rule within here passes. refl)
 
   -- they are places of rules
-  pub below-sorted : (Passes : ℕ → Type 0) (places : List ℕ) → AreSorted Passes table.keys.items places → AreBelow (length rules) places
+  pub below-sorted : (Passes : ℕ → Type 0) (places : List ℕ) → AreSortedPlaces Passes table.keys.items places → AreBelow (length rules) places
   below-sorted Passes places sorted = λ i within. omega (arith, sorted.below i within, is.keyed.many)

@@ -14,8 +14,8 @@ pub record IsIndex (patterns : List ℕ) (rules : List IndexedRule) (table : Key
   pub keyed : IsTableOf table patterns rules
 
 -- the plain values of its rules
-abbrev pub rules_of : List ℕ → List IndexedRule → List GlobRule
-rules_of patterns rules = map (plain patterns) rules
+abbrev pub rules_of_index : List ℕ → List IndexedRule → List GlobRule
+rules_of_index patterns rules = map (plain patterns) rules
 
 -- the types that are lent
 abbrev pub texts_of : List (Bor (List ℕ)) → List (List ℕ)

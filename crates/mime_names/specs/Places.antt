@@ -6,7 +6,7 @@ use Rattle.mime_names.specs.Rules.{is_match}
 use Rattle.mime_names.specs.declared.indexed_rule.IndexedRule.{IndexedRule}
 
 -- The places of just the rules whose keys pass, in rising order.
-pub record AreSorted (Passes : ℕ → Type 0) (keys places : List ℕ) : Type 0 where
+pub record AreSortedPlaces (Passes : ℕ → Type 0) (keys places : List ℕ) : Type 0 where
   pub rise : IsNonDecreasing places
   pub below : AreBelow (length keys) places
   pub all : (p : ℕ) → p < length keys → Passes (get_or keys p 0) → Contains places p

@@ -13,6 +13,23 @@ use Rattle.mime_names.specs.declared.named_rule.NamedRule.{NamedRule}
 abbrev pub plain_named : NamedRule → GlobRule
 plain_named rule = record { weight = rule.weight; kind = rule.kind.now; pattern = rule.pattern.now; cased = rule.cased }
 
+-- What is found of a rule that is lent, whose pattern is to begin at a place.
+pub record IsEntryOf (named : NamedRule) (start : ℕ) (rule : IndexedRule) : Type 0 where
+  -- Its pattern begins there.
+  pub begins : rule.start ≡ start
+  -- Its pattern is as long as the rule's.
+  pub size : rule.length ≡ length named.pattern.now
+  -- It has the rule's weight.
+  pub weight : rule.weight ≡ named.weight
+  -- It has the rule's type.
+  pub kind : rule.kind ≡ named.kind
+  -- It is case-sensitive where the rule is.
+  pub cased : rule.cased ≡ named.cased
+  -- Its class is that of the rule's pattern.
+  pub class : rule.class ≡ class_of named.pattern.now
+  -- Its rank is the rule's.
+  pub rank : rule.rank ≡ rank_of_rule (plain_named named)
+
 -- a rule's pattern, where the patterns of all stand
 abbrev pub pattern_of : List ℕ → IndexedRule → List ℕ
 pattern_of patterns rule = take rule.length (drop rule.start patterns)
@@ -35,16 +52,16 @@ of_texts Suffix = true
 of_texts Full = false
 
 -- whether a rule is one of a text
-abbrev pub is_text : GlobRule → Bool
-is_text rule = of_texts (class_of rule.pattern)
+abbrev pub is_text_rule : GlobRule → Bool
+is_text_rule rule = of_texts (class_of rule.pattern)
 
 -- whether a rule is one of a text, by its plain value
 abbrev pub texts : List ℕ → IndexedRule → Bool
-texts patterns rule = is_text (plain patterns rule)
+texts patterns rule = is_text_rule (plain patterns rule)
 
 -- whether it is one of no text
 abbrev pub others : List ℕ → IndexedRule → Bool
-others patterns rule = not (is_text (plain patterns rule))
+others patterns rule = not (is_text_rule (plain patterns rule))
 
 -- each rule is one of all
 abbrev pub every : List ℕ → IndexedRule → Bool

@@ -31,11 +31,11 @@ pub struct NameIndex<'a> {
 impl<'a> Model for NameIndex<'a> {
     ghost use Rattle.std.specs.Prelude.{List};
     ghost use Rattle.mime_base.specs.declared.database.rule.GlobRule.{GlobRule};
-    ghost use Rattle.mime_names.specs.Index.{IsIndex, rules_of};
+    ghost use Rattle.mime_names.specs.Index.{IsIndex, rules_of_index};
 
     ghost Value = { List GlobRule };
 
-    ghost view = { λ index. rules_of index.patterns.items index.rules.items };
+    ghost view = { λ index. rules_of_index index.patterns.items index.rules.items };
 
     ghost invariant = { λ index. IsIndex index.patterns.items index.rules.items index.table };
 }

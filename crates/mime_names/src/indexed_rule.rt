@@ -2,8 +2,8 @@
 
 ghost use Rattle.std.specs.Prelude.{◌≡◌, ◌<◌, ℕ, List, ◌∷◌, get_or, length, map, IfOk};
 ghost use Rattle.std.specs.List.{All};
-ghost use Rattle.mime_base.specs.Kept.{FitsRank, class_of, rank_of_rule};
-ghost use Rattle.mime_names.specs.Rules.{IsIndexedRule, is_match, pattern_of, plain, plain_named};
+ghost use Rattle.mime_base.specs.Kept.{FitsRank};
+ghost use Rattle.mime_names.specs.Rules.{IsEntryOf, IsIndexedRule, is_match, pattern_of, plain, plain_named};
 
 use crate::ending::ends_so;
 use crate::named_rule::NamedRule;
@@ -74,13 +74,7 @@ fn named_at<'b, 'p, 'a>(named: &'b [NamedRule<'p, 'a>], place: usize) -> &'b Nam
 #[inline]
 fn indexed_rule<'a>(named: &NamedRule<'_, 'a>, start: usize) -> IndexedRule<'a>
     requires limits { FitsRank (plain_named named.now) }
-    ensures start { result.start ≡ start }
-    ensures length { result.length ≡ length named.now.pattern.now }
-    ensures weight { result.weight ≡ named.now.weight }
-    ensures kind { result.kind ≡ named.now.kind }
-    ensures cased { result.cased ≡ named.now.cased }
-    ensures class { result.class ≡ class_of named.now.pattern.now }
-    ensures rank { result.rank ≡ rank_of_rule (plain_named named.now) }
+    ensures { IsEntryOf named.now start result }
 {
     let pattern = named.pattern;
     let class = class_of_bytes(pattern);

@@ -2,9 +2,9 @@
 
 ghost use Rattle.std.specs.Prelude.{◌≡◌, ◌⊎◌, ℕ, ◌+◌, ◌*◌, ◌≤◌, ◌<◌, length, IfOk, OnOk};
 ghost use Rattle.std.specs.List.Sorted.{IsNonDecreasing, IsPermutation};
-ghost use Rattle.mime_names.specs.Chains.{Gathers, Walks};
-ghost use Rattle.mime_names.specs.Keys.{Begins, Ends, Fronts, IsTable, node_key};
-ghost use Rattle.mime_names.specs.Places.{AreSorted};
+ghost use Rattle.mime_names.specs.Chains.{GathersPlaces, Walks};
+ghost use Rattle.mime_names.specs.Keys.{Begins, IsEndKey, Fronts, IsTable, node_key};
+ghost use Rattle.mime_names.specs.Places.{AreSortedPlaces};
 ghost use Rattle.mime_names.specs.Tree.{spelled};
 
 use crate::chains::{Found, push_chain};
@@ -25,7 +25,7 @@ pub fn text_places(
     // It is a table.
     requires { IsTable table.now }
     // They are of just the rules of the keys that the name's endings and the whole name have.
-    ensures near { IfOk result (λ places. AreSorted (Ends table.now.tree (spelled name.now))
+    ensures near { IfOk result (λ places. AreSortedPlaces (IsEndKey table.now.tree (spelled name.now))
         table.now.keys.items places.items) }
     // At most two nodes are counted for each byte of the name, three, and one for each place, however many rules there are.
     ensures steps { IfOk result (λ places. steps.new.nodes ≤ steps.old.nodes + length places.items + 2 * length name.now + 3) }
@@ -46,7 +46,7 @@ pub fn front_places(
     // It is a table.
     requires { IsTable table.now }
     // They are of just the rules of these two keys.
-    ensures near { IfOk result (λ places. AreSorted (Fronts name.now) table.now.keys.items places.items) }
+    ensures near { IfOk result (λ places. AreSortedPlaces (Fronts name.now) table.now.keys.items places.items) }
     // Two nodes are counted at most, and one for each place.
     ensures steps { IfOk result (λ places. steps.new.nodes ≤ steps.old.nodes + length places.items + 2) }
 {
@@ -66,7 +66,7 @@ pub fn all_places(
     // It is a table.
     requires { IsTable table.now }
     // They are of just the rules of all keys that the name asks for.
-    ensures near { IfOk result (λ places. AreSorted (λ key. Ends table.now.tree (spelled name.now) key
+    ensures near { IfOk result (λ places. AreSortedPlaces (λ key. IsEndKey table.now.tree (spelled name.now) key
         ⊎ Fronts name.now key) table.now.keys.items places.items) }
     // At most two nodes are counted for each byte of the name, five, and one for each place, however many rules there are.
     ensures steps { IfOk result (λ places. steps.new.nodes ≤ steps.old.nodes + length places.items + 2 * length name.now + 5) }
@@ -97,7 +97,7 @@ fn push_fronts(
     steps: &mut Meter,
 ) -> Result<(), OutOfMemory>
     requires { IsTable table.now }
-    ensures gathers { OnOk result (Gathers (Fronts name.now) table.now.keys.items found.old.items found.new.items) }
+    ensures gathers { OnOk result (GathersPlaces (Fronts name.now) table.now.keys.items found.old.items found.new.items) }
     ensures steps { OnOk result (steps.new.nodes + length found.old.items ≤ steps.old.nodes + length found.new.items + 2) }
 {
     push_key(found, table, ANY_NAME, steps)?;
@@ -113,7 +113,7 @@ fn push_front(
     steps: &mut Meter,
 ) -> Result<(), OutOfMemory>
     requires { IsTable table.now }
-    ensures gathers { OnOk result (Gathers (λ key. (key < 256) × Begins name.now key) table.now.keys.items found.old.items found.new.items) }
+    ensures gathers { OnOk result (GathersPlaces (λ key. (key < 256) × Begins name.now key) table.now.keys.items found.old.items found.new.items) }
     ensures steps { OnOk result (steps.new.nodes + length found.old.items ≤ steps.old.nodes + length found.new.items + 1) }
 {
     if name.len() == 0 {
@@ -160,7 +160,7 @@ fn push_endings(
     steps: &mut Meter,
 ) -> Result<(), OutOfMemory>
     requires { IsTable table.now }
-    ensures gathers { OnOk result (Gathers (Ends table.now.tree (spelled name.now))
+    ensures gathers { OnOk result (GathersPlaces (IsEndKey table.now.tree (spelled name.now))
         table.now.keys.items found.old.items found.new.items) }
     ensures steps { OnOk result (steps.new.nodes + length found.old.items ≤ steps.old.nodes + length found.new.items + 2 * length name.now + 3) }
 {

@@ -74,9 +74,9 @@ as_tree (a_leaf rule ∷ siblings) = leaf rule (as_tree siblings)
 as_tree (a_node byte below ∷ siblings) = node byte below (as_tree siblings)
 
 -- the numbers of a sibling's record
-abbrev pub IsSibling : Standing → Sibling → List ℕ → Type 0
-IsSibling S (a_leaf rule) row = (kind : ℕ) × (row ≡ 0 ∷ kind ∷ weight_and_flags rule ∷ []) × TextAt S kind rule.kind
-IsSibling S (a_node byte below) row = (first : ℕ) × (row ≡ byte ∷ sibling_count below ∷ first ∷ []) × TreeAt S first below
+abbrev pub IsSiblingRecord : Standing → Sibling → List ℕ → Type 0
+IsSiblingRecord S (a_leaf rule) row = (kind : ℕ) × (row ≡ 0 ∷ kind ∷ weight_and_flags rule ∷ []) × TextAt S kind rule.kind
+IsSiblingRecord S (a_node byte below) row = (first : ℕ) × (row ≡ byte ∷ sibling_count below ∷ first ∷ []) × TreeAt S first below
 
 -- how many nodes there are at it and below it, leaves included
 abbrev pub sibling_nodes : Sibling → ℕ
@@ -160,7 +160,7 @@ pub record WritesSibling (old new row : List ℕ) (n : ℕ) (es : List PathRule)
   -- They are after the others.
   pub grew : Grew old new by
   -- The row is the sibling's record, over what was written.
-  pub is : IsSibling (Written new) sibling row
+  pub is : IsSiblingRecord (Written new) sibling row
   -- It takes the nodes that the entries need more than those after the first n.
   pub size : sibling_nodes sibling + nodes [] (drop n es) ≡ nodes [] es
   -- So it does of the bytes, with the 12 of its record.

@@ -47,7 +47,7 @@ pub fn write_magic(
 }
 
 impl Entry<4> for Section {
-    ghost use Rattle.mime_base.specs.Format.Magic.{IsSection};
+    ghost use Rattle.mime_base.specs.Format.Magic.{IsSectionRecord};
     ghost use Rattle.mime_base.specs.Magic.{PlainSection, plain_section};
     ghost use Rattle.mime_store.specs.Lines.{section_parts_room};
     ghost use Rattle.std.proofs.Common.{lit<, lit≤};
@@ -58,7 +58,7 @@ impl Entry<4> for Section {
 
     ghost room = { section_parts_room };
 
-    ghost IsRecord = { IsSection };
+    ghost IsRecord = { IsSectionRecord };
 
     fn take_room(&self, left: usize) -> Option<usize> {
         let left = left.checked_sub(16)?;

@@ -10,7 +10,7 @@
 ghost use Rattle.std.specs.Prelude.{◌≡◌, ◌++◌, IfOk, OnOk};
 ghost use Rattle.mime_base.specs.Database.{plain_database};
 ghost use Rattle.mime_text.specs.Merging.{merged, plain_dirs, visible_database};
-ghost use Rattle.mime_text.specs.Merging.Gathering.{Adds, Gathers};
+ghost use Rattle.mime_text.specs.Merging.Gathering.{AddsDirectory, Gathers};
 
 mod first;
 pub mod hidden;
@@ -134,7 +134,7 @@ fn gather(alloc: Global, dirs: Vec<DirFiles>) -> Result<Lists, OutOfMemory>
 impl Lists {
     /// Adds a directory that is less preferred than those before.
     fn add(&mut self, alloc: Global, dir: DirFiles) -> Result<(), OutOfMemory>
-        ensures { OnOk result (Adds self.old dir self.new) }
+        ensures { OnOk result (AddsDirectory self.old dir self.new) }
     {
         let DirFiles {
             globs,

@@ -8,7 +8,7 @@ use Rattle.mime_base.specs.Format.Packed.{Packed}
 use Rattle.mime_base.specs.Format.Room.{room}
 use Rattle.mime_base.specs.Format.Spells.{Spells, cache_limit}
 use Rattle.mime_text.specs.Merging.{twinless_database}
-use Rattle.mime_tool.specs.Desk.{Ends, State}
+use Rattle.mime_tool.specs.Desk.{EndsOverFiles, State}
 use Rattle.mime_request.specs.Request.{PlainDirectories}
 use Rattle.mime_tool.specs.Directories.{IsCommand, IsDatabaseOf}
 use Rattle.mime_tool.specs.Environment.{PlainEnvironment}
@@ -141,7 +141,7 @@ pub record BuildsOver (database : PlainDatabase) (file : List ℕ) (before after
   pub same_setting : after.setting ≡ before.setting
   pub can_be : (run : Run) × IsBuildOver file (writing_of before.setting.writes file) before.stored after.stored database run
   pub sinks :
-      Ends (λ _. IsBuildOver file (writing_of before.setting.writes file) before.stored after.stored database) [] before.sinks
+      EndsOverFiles (λ _. IsBuildOver file (writing_of before.setting.writes file) before.stored after.stored database) [] before.sinks
       after.sinks result
   pub leaves : LeavesOver file before.stored after.stored database result
 
@@ -150,7 +150,7 @@ pub record BuildsWhere (output : Bool) (environment : Option PlainEnvironment) (
     (drop_twins : Bool) (file : List ℕ) (before after : State) (result : Result ℕ Stop) : Type 0 where
   pub same_setting : after.setting ≡ before.setting
   pub sinks :
-      Ends (IsBuildWhere output environment to_terminal dirs drop_twins file before.setting.writes before.stored after.stored) []
+      EndsOverFiles (IsBuildWhere output environment to_terminal dirs drop_twins file before.setting.writes before.stored after.stored) []
       before.sinks after.sinks result
   pub leaves : LeavesWhere output environment dirs drop_twins file before.stored after.stored
 

@@ -28,7 +28,7 @@ IsCacheFaultStop path fault.OutOfMemory s = s ≡ stop.OutOfMemory
 IsCacheFaultStop path f s = IsRefusal (refusal path (cache_fault_name f)) s
 
 -- a fault for which a cache gives no answer: IsFault says why, and no cache that spells what is asked for and is packed has it
-pub record IsRefused (cache : List ℕ) (IsFault : CacheFault → Type 0) (IsAsked : PlainDatabase → Type 0)
+pub record IsCacheRefusal (cache : List ℕ) (IsFault : CacheFault → Type 0) (IsAsked : PlainDatabase → Type 0)
     (f : CacheFault) : Type 0 where
   pub other : f ≢ fault.OutOfMemory
   pub why : IsFault f

@@ -14,7 +14,7 @@ use Rattle.mime_load.specs.declared.part.Part.TheVariants as part
 use Rattle.mime_view.specs.Opening.{IsOpenFault}
 use Rattle.mime_view.specs.declared.fault.CacheFault.{CacheFault}
 use Rattle.mime_request.specs.Request.{PlainSource}
-use Rattle.mime_tool.specs.Cache.{IsAnsweredOr, IsRefused}
+use Rattle.mime_tool.specs.Cache.{IsAnsweredOr, IsCacheRefusal}
 use Rattle.mime_tool.specs.Environment.{PlainEnvironment}
 use Rattle.mime_tool.specs.Files.{Stored}
 use Rattle.mime_tool.specs.Run.{Run, printed, refusal, unanswered}
@@ -87,7 +87,7 @@ pub record IsFew (b : PlainDatabase) : Type 0 where
 
 -- `check` refuses the cache for this fault: it does not open
 abbrev pub RefusesToOpen : List ℕ → CacheFault → Type 0
-RefusesToOpen cache = IsRefused cache (IsOpenFault cache) (λ _. ⊤)
+RefusesToOpen cache = IsCacheRefusal cache (IsOpenFault cache) (λ _. ⊤)
 
 -- the run over a cache that was read back: the counts of its lists, or, with status 1, the part that is not read back
 abbrev pub IsTold : List ℕ → Result Lists LoadFault → Run → Type 0

@@ -39,12 +39,12 @@ Does run old new (Err stop.CannotWrite) = old.out ≡ None
 Does run old new (Err (stop.Refused _)) = ⊥
 
 -- a run over the files is done, but for the message of a stop, which is still to be said
-abbrev pub Ends : (List (List ℕ) → Run → Type 0) → List (List ℕ) → Sinks → Sinks → Result ℕ Stop → Type 0
-Ends IsRun files old new (Ok status) =
+abbrev pub EndsOverFiles : (List (List ℕ) → Run → Type 0) → List (List ℕ) → Sinks → Sinks → Result ℕ Stop → Type 0
+EndsOverFiles IsRun files old new (Ok status) =
     (run : Run) × IsRun files run × (stops run ≡ false) × (status ≡ run.status) × Writes old new run
-Ends IsRun files old new (Err stop.OutOfMemory) = IsCut IsRun files old new
-Ends IsRun files old new (Err stop.CannotWrite) = old.out ≡ None
-Ends IsRun files old new (Err s) =
+EndsOverFiles IsRun files old new (Err stop.OutOfMemory) = IsCut IsRun files old new
+EndsOverFiles IsRun files old new (Err stop.CannotWrite) = old.out ≡ None
+EndsOverFiles IsRun files old new (Err s) =
     (run : Run) × IsRun files (stopped (message s) run) × Writes old new run
 
 -- a file is read whole, and IsFound says what is found; or it is refused, and that names its path; or memory ran out

@@ -5,14 +5,12 @@ use Rattle.mime_base.specs.Database.{PlainDatabase}
 use Rattle.mime_base.specs.Database.PlainPairs.{plain_icons, plain_pairs}
 use Rattle.mime_base.specs.Magic.{PlainSection, plain_sections}
 use Rattle.mime_base.specs.declared.database.rule.GlobRule.{GlobRule}
+use Rattle.mime_text.specs.DirTexts.{SaysMagic}
 use Rattle.mime_text.specs.Lines.{HasJust, skipped_of}
 use Rattle.mime_text.specs.Lines.Globs2.{is_malformed_rule, markers_of, rules_of}
 use Rattle.mime_text.specs.Lines.Icons.{icons_in, is_malformed_icon}
 use Rattle.mime_text.specs.Lines.Pairs.{is_malformed_pair, pairs_in}
-use Rattle.mime_text.specs.Magic.Entries.{PlainFlatSection}
-use Rattle.mime_text.specs.Magic.File.{deleted_kinds, kept_sections}
 use Rattle.mime_text.specs.Magic.Reading.{magic_fault}
-use Rattle.mime_text.specs.Magic.Text.{MagicText}
 use Rattle.mime_text.specs.Merging.{PlainDir, merged, visible_database}
 use Rattle.mime_text.specs.declared.magic.fault.MagicFault.{MagicFault}
 use Rattle.mime_text.specs.declared.magic.fault.MagicFault.TheVariants as fault
@@ -107,9 +105,7 @@ plain_magic file = (plain_sections file.sections.items, file.deleted.items)
 
 -- the sections that a text of magic spells, and the types that it deletes
 abbrev pub IsMagic : List ℕ → List PlainSection × List (List ℕ) → Type 0
-IsMagic text magic =
-    (flat_sections : List PlainFlatSection) × MagicText text flat_sections
-    × (magic.0 ≡ kept_sections flat_sections) × HasJust magic.1 (deleted_kinds flat_sections)
+IsMagic text magic = SaysMagic text magic.0 magic.1
 
 -- what a text of magic spells; or it has a fault, and that stops
 abbrev pub IsMagicOrFault : List ℕ → List ℕ → Option (List PlainSection × List (List ℕ)) → List ℕ → Type 0

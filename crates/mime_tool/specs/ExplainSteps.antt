@@ -83,8 +83,8 @@ abbrev pub offer_of : GlobRule → ℕ × GlobRule
 offer_of rule = (rank_of_rule rule, rule)
 
 -- the offers are these rules, each with its rank
-abbrev pub AreOffers : List GlobRule → List (ℕ × LentRule) → Type 0
-AreOffers rules offers = map plain_offer offers ≡ map offer_of rules
+abbrev pub AreRanked : List GlobRule → List (ℕ × LentRule) → Type 0
+AreRanked rules offers = map plain_offer offers ≡ map offer_of rules
 
 -- the rules that match are those that are kept of the name, and all
 abbrev pub AreMatches : PlainDatabase → List ℕ → Matches → Type 0

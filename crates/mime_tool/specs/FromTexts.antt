@@ -1,4 +1,4 @@
--- What the texts of data directories say, and what an answer from them comes to.
+-- What an answer from the texts of data directories comes to.
 use Rattle.std.specs.Prelude.{◌≡◌, ◌≢◌, ◌⊎◌, ◌↔◌, ◌<◌, ◌≤◌, ℕ, zero, suc, Bool, true, false, List, [], ◌∷◌, length, Option, Some, None}
 use Rattle.std.specs.Prelude.{IfSome, Result, Ok, Err, IfErr, OnOk, ⊤}
 use Rattle.mime_base.specs.Database.{PlainDatabase}
@@ -16,36 +16,18 @@ use Rattle.mime_lookup.specs.declared.stopped.Cause.TheVariants as cause
 use Rattle.mime_lookup.specs.declared.stopped.Stopped.{Stopped}
 use Rattle.mime_store.specs.declared.fault.StoreFault.{StoreFault}
 use Rattle.mime_store.specs.declared.fault.StoreFault.TheVariants as store
-use Rattle.mime_text.specs.Magic.Reading.{magic_fault}
-use Rattle.mime_text.specs.Merging.{PlainDir, merged, visible_database}
+use Rattle.mime_text.specs.DirTexts.{IsFaultOfDirs}
+use Rattle.mime_text.specs.Merging.{visible_database}
+use Rattle.mime_text.specs.declared.dir_texts.DirTexts.{DirTexts}
+use Rattle.mime_text.specs.declared.dir_texts.DirsFault.{DirsFault}
+use Rattle.mime_text.specs.declared.dir_texts.DirsFault.TheVariants as dirs_fault
 use Rattle.mime_text.specs.declared.magic.fault.MagicFault.{MagicFault}
-use Rattle.mime_tool.specs.Directories.{AreGlobs, AreIcons, ArePairs, IsMagic}
+use Rattle.mime_text.specs.declared.magic.fault.MagicFault.TheVariants.{Malformed}
 use Rattle.mime_tool.specs.declared.from_texts.AnswerFault.{AnswerFault}
 use Rattle.mime_tool.specs.declared.from_texts.AnswerFault.TheVariants as fault
-use Rattle.mime_tool.specs.declared.from_texts.DirBytes.{DirBytes}
 use Rattle.mime_tool.specs.declared.from_texts.OwnedAnswer.{OwnedAnswer}
 
--- ---- texts
-
--- what the six texts of a directory say
-pub record SaysDir (dir : DirBytes) (plain : PlainDir) : Type 0 where
-  pub globs : AreGlobs dir.globs2.now (plain.rules, plain.deleted_globs)
-  pub magic : IsMagic dir.magic.now (plain.sections, plain.deleted_magic)
-  pub aliases : ArePairs dir.aliases.now plain.aliases
-  pub subclasses : ArePairs dir.subclasses.now plain.subclasses
-  pub icons : AreIcons dir.icons.now plain.icons
-  pub generic_icons : AreIcons dir.generic_icons.now plain.generic_icons
-
--- what directories say, each in its place
-abbrev pub SayDirs : List DirBytes → List PlainDir → Type 0
-SayDirs [] [] = Unit {0}
-SayDirs [] (plain ∷ plains) = ⊥
-SayDirs (dir ∷ dirs) [] = ⊥
-SayDirs (dir ∷ dirs) (plain ∷ plains) = SaysDir dir plain × SayDirs dirs plains
-
--- the database that directories say: what they say, merged, with the visible ones of its rules
-abbrev pub SayDatabase : List DirBytes → PlainDatabase → Type 0
-SayDatabase dirs b = (plains : List PlainDir) × SayDirs dirs plains × (b ≡ visible_database (merged plains))
+-- ---- the law of the visible rules
 
 -- over the visible rules of a database the same types are chosen as over all, by an order that asks the kept rules alone
 abbrev pub VisibleChoosesAlike : Type 0
@@ -61,12 +43,6 @@ VisibleSufficesAlike =
 abbrev pub VisibleReadsAlike : Type 0
 VisibleReadsAlike = (b : PlainDatabase) (name : List ℕ) (content : Option (List ℕ)) (order : Order)
     → order ≢ AllGlobs → read_of (visible_database b) name content order ≡ read_of b name content order
-
--- the directory of this number, counted from 0, is the first whose magic has a fault, and this is its first
-abbrev pub FirstRefused : List DirBytes → ℕ → MagicFault → Type 0
-FirstRefused [] i f = ⊥
-FirstRefused (dir ∷ dirs) zero f = magic_fault dir.magic.now ≡ Some f
-FirstRefused (dir ∷ dirs) (suc i) f = (magic_fault dir.magic.now ≡ None) × FirstRefused dirs i f
 
 -- ---- answers
 
@@ -139,17 +115,14 @@ IsMagicRefusal i f (Err e) = (e ≡ fault.Magic i f) ⊎ (e ≡ fault.OutOfMemor
 
 -- ---- the parts of an answer
 
--- the first fault of the directories' magic, unless memory ran out
-abbrev pub IsFaultOfDirs : List DirBytes → AnswerFault → Type 0
-IsFaultOfDirs dirs (fault.Magic i f) = FirstRefused dirs i f
-IsFaultOfDirs dirs (fault.Store f) = ⊥
-IsFaultOfDirs dirs (fault.Lookup stopped) = ⊥
-IsFaultOfDirs dirs fault.OutOfMemory = Unit {0}
+-- a fault of reading directories; memory has its own
+abbrev pub of_dirs : DirsFault → AnswerFault
+of_dirs (dirs_fault.Magic i kind offset) = fault.Magic i (Malformed kind offset)
+of_dirs dirs_fault.OutOfMemory = fault.OutOfMemory
 
--- the first fault of this text of magic, of the directory of this number, unless memory ran out
-abbrev pub IsFaultIn : List ℕ → ℕ → AnswerFault → Type 0
-IsFaultIn text number e =
-    (e ≡ fault.OutOfMemory) ⊎ ((f : MagicFault) × (e ≡ fault.Magic number f) × (magic_fault text ≡ Some f))
+-- a fault of reading these directories
+abbrev pub IsReadFault : List DirTexts → AnswerFault → Type 0
+IsReadFault dirs e = (f : DirsFault) × IsFaultOfDirs dirs f × (e ≡ of_dirs f)
 
 -- no cache can hold a database, unless memory ran out
 abbrev pub IsStoreFault : PlainDatabase → AnswerFault → Type 0

@@ -2,10 +2,10 @@
 use Rattle.std.specs.Prelude.{◌≡◌, ◌≢◌, ℕ, List, [], ◌∷◌, Result}
 use Rattle.clap.specs.declared.error.kind.ErrorKind.{ErrorKind}
 use Rattle.clap.specs.declared.error.kind.ErrorKind.TheVariants as kind
-use Rattle.mime_tool.specs.Desk.{Ends, State}
+use Rattle.mime_tool.specs.Desk.{EndsOverFiles, State}
 use Rattle.mime_tool.specs.Files.{Stored, Writing}
 use Rattle.mime_tool.specs.Process.{PlainProcess}
-use Rattle.mime_tool.specs.Program.{IsAnswer, IsShown, Leaves, names_of}
+use Rattle.mime_tool.specs.Program.{IsAnswer, IsShown, LeavesFiles, names_of}
 use Rattle.mime_tool.specs.Run.{Run, mistaken}
 use Rattle.mime_tool.specs.Words.{Heard, means, no_text, not_text}
 use Rattle.mime_tool.specs.declared.words.RawWord.{RawWord}
@@ -24,7 +24,7 @@ heard_names process stored (no_text number) = []
 
 -- what words leave stored
 abbrev pub LeavesHeard : PlainProcess → Heard → (List ℕ → Stored) → (List ℕ → Stored) → Type 0
-LeavesHeard process (means m) old new = Leaves process m old new
+LeavesHeard process (means m) old new = LeavesFiles process m old new
 LeavesHeard process (no_text number) old new = new ≡ old
 
 -- what is said of words that are refused for an error of this kind: its text, or the first of them that is no text
@@ -35,5 +35,5 @@ IsRefusedRun (raw ∷ raws) k run = (k ≢ kind.OutOfMemory) × (run ≡ mistake
 -- the setting stays, the run that words ask for is done, up to the message of a stop, and this is left stored
 pub record Replies (process : PlainProcess) (h : Heard) (before after : State) (result : Result ℕ Stop) : Type 0 where
   pub same_setting : after.setting ≡ before.setting
-  pub sinks : Ends (IsReply process before.setting.writes before.stored after.stored h) (heard_names process before.stored h) before.sinks after.sinks result
+  pub sinks : EndsOverFiles (IsReply process before.setting.writes before.stored after.stored h) (heard_names process before.stored h) before.sinks after.sinks result
   pub leaves : LeavesHeard process h before.stored after.stored

@@ -6,7 +6,7 @@ use Rattle.mime_lookup.specs.Icons.{PlainIcons, icons_of}
 use Rattle.mime_lookup.specs.StepFaults.{IsIconFault}
 use Rattle.mime_view.specs.declared.fault.CacheFault.{CacheFault}
 use Rattle.mime_request.specs.Request.{PlainSource}
-use Rattle.mime_tool.specs.Cache.{IsAnsweredOr, IsRefused}
+use Rattle.mime_tool.specs.Cache.{IsAnsweredOr, IsCacheRefusal}
 use Rattle.mime_tool.specs.Environment.{PlainEnvironment}
 use Rattle.mime_tool.specs.Files.{Stored}
 use Rattle.mime_tool.specs.Run.{Run, printed}
@@ -23,7 +23,7 @@ AreIconsOf cache kind icons = (b : PlainDatabase) → Spells cache b → icons �
 
 -- `icon` refuses the cache for this fault
 abbrev pub RefusesIcons : List ℕ → CacheFault → Type 0
-RefusesIcons cache = IsRefused cache (IsIconFault cache) (λ _. ⊤)
+RefusesIcons cache = IsCacheRefusal cache (IsIconFault cache) (λ _. ⊤)
 
 -- the icons are printed
 abbrev pub AreIconLines : List ℕ → List ℕ → Run → Type 0

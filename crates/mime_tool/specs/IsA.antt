@@ -6,7 +6,7 @@ use Rattle.mime_base.specs.Format.Spells.{Spells}
 use Rattle.mime_lookup.specs.StepFaults.{IsSubclassFault}
 use Rattle.mime_view.specs.declared.fault.CacheFault.{CacheFault}
 use Rattle.mime_request.specs.Request.{PlainSource}
-use Rattle.mime_tool.specs.Cache.{IsAnsweredOr, IsRefused}
+use Rattle.mime_tool.specs.Cache.{IsAnsweredOr, IsCacheRefusal}
 use Rattle.mime_tool.specs.Environment.{PlainEnvironment}
 use Rattle.mime_tool.specs.Files.{Stored}
 use Rattle.mime_tool.specs.Run.{Run, printed}
@@ -25,7 +25,7 @@ IsSaid cache kind base says = (b : PlainDatabase) → Spells cache b
 
 -- `isa` refuses the cache for this fault
 abbrev pub RefusesPairs : List ℕ → CacheFault → Type 0
-RefusesPairs cache = IsRefused cache (IsSubclassFault cache) (λ _. ⊤)
+RefusesPairs cache = IsCacheRefusal cache (IsSubclassFault cache) (λ _. ⊤)
 
 -- the answer is printed
 abbrev pub IsAnswerOf : List ℕ → List ℕ → List ℕ → Run → Type 0

@@ -73,22 +73,22 @@ IsNamed true file IsOne run = IsOne run
 IsNamed false file IsOne run = run ≡ unanswered (too_long file)
 
 -- the run over a file that is to be opened, where this is stored
-abbrev pub IsOpened : PlainLookup → Stored → List ℕ → Run → Type 0
-IsOpened lookup nothing file run = run ≡ unanswered (cannot_open (written lookup.output file))
-IsOpened lookup dangling file run = run ≡ unanswered (cannot_open (written lookup.output file))
-IsOpened lookup (special kind) file run = run ≡ unanswered (cannot_open (written lookup.output file))
-IsOpened lookup folder file run = run ≡ unanswered (cannot_read (written lookup.output file))
-IsOpened lookup closed file run = run ≡ unanswered (cannot_open (written lookup.output file))
-IsOpened lookup unreadable file run = IsNamed (fits (lookup.name_of file)) (written lookup.output file) (lookup.IsUnread file) run
-IsOpened lookup (bytes bs) file run = IsNamed (fits (lookup.name_of file)) (written lookup.output file) (lookup.IsTyped (Some bs) file) run
-IsOpened lookup unknown file run = (run ≡ unanswered (cannot_open (written lookup.output file)))
+abbrev pub IsOpenedRun : PlainLookup → Stored → List ℕ → Run → Type 0
+IsOpenedRun lookup nothing file run = run ≡ unanswered (cannot_open (written lookup.output file))
+IsOpenedRun lookup dangling file run = run ≡ unanswered (cannot_open (written lookup.output file))
+IsOpenedRun lookup (special kind) file run = run ≡ unanswered (cannot_open (written lookup.output file))
+IsOpenedRun lookup folder file run = run ≡ unanswered (cannot_read (written lookup.output file))
+IsOpenedRun lookup closed file run = run ≡ unanswered (cannot_open (written lookup.output file))
+IsOpenedRun lookup unreadable file run = IsNamed (fits (lookup.name_of file)) (written lookup.output file) (lookup.IsUnread file) run
+IsOpenedRun lookup (bytes bs) file run = IsNamed (fits (lookup.name_of file)) (written lookup.output file) (lookup.IsTyped (Some bs) file) run
+IsOpenedRun lookup unknown file run = (run ≡ unanswered (cannot_open (written lookup.output file)))
     ⊎ (run ≡ unanswered (cannot_read (written lookup.output file)))
     ⊎ IsNamed (fits (lookup.name_of file)) (written lookup.output file) (lookup.IsGuessed file) run
 
 -- the run over a file: by its name alone, or it is opened
 abbrev pub IsTypeLineBy : Bool → PlainLookup → Stored → List ℕ → Run → Type 0
 IsTypeLineBy true lookup stored file run = IsNamed (fits (lookup.name_of file)) (written lookup.output file) (lookup.IsTyped None file) run
-IsTypeLineBy false lookup stored file run = IsOpened lookup stored file run
+IsTypeLineBy false lookup stored file run = IsOpenedRun lookup stored file run
 
 -- the same, with `--inode` or without it
 abbrev pub with_inode : Bool → PlainLookup → PlainLookup

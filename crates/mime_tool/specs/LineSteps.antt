@@ -72,12 +72,12 @@ abbrev pub plain_lookup : Lookup → PlainLookup
 plain_lookup lookup = with_inode lookup.inode (lookup_in lookup.by lookup)
 
 -- what is told of a cost
-abbrev pub tail_of : Cost → List ℕ
-tail_of cost = cost_tail cost.is_told cost.meter cost.read
+abbrev pub tail_of_cost : Cost → List ℕ
+tail_of_cost cost = cost_tail cost.is_told cost.meter cost.read
 
 -- what is written of a file that comes to this, where its name is written so
 abbrev pub run_of : Output → List ℕ → Outcome → Run
-run_of output name (outcome.Typed kind cost) = printed (answer_of output name (written output kind.now) (tail_of cost))
+run_of output name (outcome.Typed kind cost) = printed (answer_of output name (written output kind.now) (tail_of_cost cost))
 run_of output name outcome.CannotOpen = unanswered (cannot_open name)
 run_of output name outcome.NameTooLong = unanswered (too_long name)
 run_of output name outcome.CannotRead = unanswered (cannot_read name)
@@ -97,12 +97,12 @@ GivesLine IsLine output file (Err stop.CannotWrite) = ⊥
 GivesLine IsLine output file (Err stop.OutOfMemory) = Unit {0}
 
 -- what a file that is looked up comes to
-abbrev pub LooksUp : PlainLookup → Stored → List ℕ → Result Outcome Stop → Type 0
-LooksUp lookup stored file result = GivesLine (IsLineOfKind None lookup stored file) lookup.output file result
+abbrev pub LooksUpFile : PlainLookup → Stored → List ℕ → Result Outcome Stop → Type 0
+LooksUpFile lookup stored file result = GivesLine (IsLineOfKind None lookup stored file) lookup.output file result
 
 -- the same, and nothing is written yet
 abbrev pub LooksUpHere : PlainLookup → Stored → List ℕ → Sinks → Sinks → Result Outcome Stop → Type 0
-LooksUpHere lookup stored file old new result = (new ≡ old) × LooksUp lookup stored file result
+LooksUpHere lookup stored file old new result = (new ≡ old) × LooksUpFile lookup stored file result
 
 -- what a file comes to, by its kind or looked up, and nothing is written yet
 abbrev pub ComesTo : PlainLookup → Stored → List ℕ → Sinks → Sinks → Result Outcome Stop → Type 0

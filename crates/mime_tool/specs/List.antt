@@ -9,7 +9,7 @@ use Rattle.mime_view.specs.Listing.Faults.{IsListingFault}
 use Rattle.mime_view.specs.Opening.{IsOpenFault}
 use Rattle.mime_view.specs.declared.fault.CacheFault.{CacheFault}
 use Rattle.mime_request.specs.Request.{PlainSource}
-use Rattle.mime_tool.specs.Cache.{IsAnsweredOr, IsRefused}
+use Rattle.mime_tool.specs.Cache.{IsAnsweredOr, IsCacheRefusal}
 use Rattle.mime_tool.specs.Environment.{PlainEnvironment}
 use Rattle.mime_tool.specs.Files.{Stored}
 use Rattle.mime_tool.specs.Run.{Run, printed}
@@ -40,7 +40,7 @@ IsUnlisted cache f = IsOpenFault cache f ⊎ ((left : ℕ) × IsListingFault cac
 
 -- `list` refuses the cache for this fault
 abbrev pub RefusesRules : List ℕ → CacheFault → Type 0
-RefusesRules cache = IsRefused cache (IsUnlisted cache) HasListedRules
+RefusesRules cache = IsCacheRefusal cache (IsUnlisted cache) HasListedRules
 
 -- the lines of the rules of a cache are printed
 abbrev pub AreRuleLines : List ℕ → Run → Type 0

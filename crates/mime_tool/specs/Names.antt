@@ -27,11 +27,11 @@ abbrev pub has_no_zero : List ℕ → Bool
 has_no_zero bs = list_all (λ b. not (b == 0)) bs
 
 -- of what was left of a list these bytes are taken, and this is left
-abbrev pub Takes : Stored → List ℕ → Stored → Type 0
-Takes unknown taken after = Unit {0}
-Takes (bytes bs) taken after = (rest : List ℕ) × (bs ≡ taken ++ rest) × (after ≡ bytes rest)
-Takes unreadable taken after = (taken ≡ []) × (after ≡ unreadable)
-Takes _ taken after = ⊥
+abbrev pub TakesBytes : Stored → List ℕ → Stored → Type 0
+TakesBytes unknown taken after = Unit {0}
+TakesBytes (bytes bs) taken after = (rest : List ℕ) × (bs ≡ taken ++ rest) × (after ≡ bytes rest)
+TakesBytes unreadable taken after = (taken ≡ []) × (after ≡ unreadable)
+TakesBytes _ taken after = ⊥
 
 -- what ends a name: a zero byte, or nothing yet
 abbrev pub ending : Bool → List ℕ
@@ -46,7 +46,7 @@ CutsPiece bs piece ended =
 -- a name grows by a piece of what was left of a list, and this is left; where that ends it, the zero byte is taken too
 abbrev pub TakesPiece : Stored → Stored → List ℕ → List ℕ → Bool → Type 0
 TakesPiece before after old new ended =
-    (piece : List ℕ) × (has_no_zero piece ≡ true) × (new ≡ old ++ piece) × Takes before (piece ++ ending ended) after
+    (piece : List ℕ) × (has_no_zero piece ≡ true) × (new ≡ old ++ piece) × TakesBytes before (piece ++ ending ended) after
 
 -- the list gives its next name, and this is left
 abbrev pub Gives : Stored → List ℕ → Stored → Type 0
@@ -62,8 +62,8 @@ IsAtEnd _ = ⊥
 
 -- more is read of what was left, or that is at its end; or it can't be read, and the message names the list
 abbrev pub ReadsMore : List ℕ → Stored → Stored → Result Bool Stop → Type 0
-ReadsMore list before after (Ok true) = Takes before [] after
-ReadsMore list before after (Ok false) = Takes before [] after × IsAtEnd before
+ReadsMore list before after (Ok true) = TakesBytes before [] after
+ReadsMore list before after (Ok false) = TakesBytes before [] after × IsAtEnd before
 ReadsMore list before after (Err (stop.Refused text)) = IsUnlisted before × (string_bytes text ≡ cannot_read list)
 ReadsMore list before after (Err stop.CannotWrite) = ⊥
 ReadsMore list before after (Err stop.OutOfMemory) = Unit {0}

@@ -13,7 +13,7 @@ use Rattle.mime_tool.specs.Line.{IsTypeLine, PlainLookup, asked_order, name_for,
 use Rattle.mime_tool.specs.Output.{type_line, written}
 use Rattle.mime_tool.specs.Process.{PlainProcess}
 use Rattle.mime_tool.specs.Run.{Run, cannot_read, printed, unanswered}
-use Rattle.mime_tool.specs.Subjects.{AreRuns}
+use Rattle.mime_tool.specs.Subjects.{AreSubjectRuns}
 
 -- the line of a file, with a type that the checking order gives to its name and this content
 abbrev pub IsTyped : Output → PlainDatabase → Order → Option (List ℕ) → List ℕ → Run → Type 0
@@ -21,9 +21,9 @@ IsTyped output database order content file run =
     (kind : List ℕ) × Chooses database (name_for order file) content Little order kind × (run ≡ printed (type_line output file kind []))
 
 -- the run over a file whose reads all fail: its line, if the globs alone give its type
-abbrev pub IsUnread : Bool → Output → PlainDatabase → Order → List ℕ → Run → Type 0
-IsUnread true output database order file run = IsTyped output database order (Some []) file run
-IsUnread false output database order file run = run ≡ unanswered (cannot_read (written output file))
+abbrev pub IsUnreadRun : Bool → Output → PlainDatabase → Order → List ℕ → Run → Type 0
+IsUnreadRun true output database order file run = IsTyped output database order (Some []) file run
+IsUnreadRun false output database order file run = run ≡ unanswered (cannot_read (written output file))
 
 -- the run over a file of which nothing is known: a line with a type that the checking order gives to its name and some content; or
 -- it can't be read, and the globs alone don't give its type
@@ -41,14 +41,14 @@ lookup_over name_only output order database = record {
   output = output;
   name_of = name_for order;
   IsTyped = IsTyped output database order;
-  IsUnread = λ file. IsUnread (globs_suffice database (name_for order file) order) output database order file;
+  IsUnread = λ file. IsUnreadRun (globs_suffice database (name_for order file) order) output database order file;
   IsGuessed = IsGuessed output database order;
 }
 
 -- the lines of what is looked up over this data with these options, where this is stored and standard input gives this
 abbrev pub AreTypeLines : PlainSubjects → (List ℕ → Stored) → Stored → Options → PlainDatabase → List (List ℕ) → Run → Type 0
 AreTypeLines subjects stored input options database =
-    AreRuns subjects stored input (IsTypeLine (with_inode options.inode
+    AreSubjectRuns subjects stored input (IsTypeLine (with_inode options.inode
     (lookup_over options.name_only options.output (asked_order options) database)))
 
 -- the run of `plain` over these directories with these options, for what is looked up

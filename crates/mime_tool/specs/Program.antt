@@ -6,7 +6,7 @@ use Rattle.clap.specs.declared.error.kind.ErrorKind.TheVariants as kind
 use Rattle.mime_request.specs.Request.{PlainRequest, Meaning, asks, build, check, explain, icon, is_a, list, plain, refused, type_of}
 use Rattle.mime_tool.specs.Build.{IsBuild, LeavesBuilt}
 use Rattle.mime_tool.specs.Check.{IsCheck}
-use Rattle.mime_tool.specs.Desk.{Ends, State}
+use Rattle.mime_tool.specs.Desk.{EndsOverFiles, State}
 use Rattle.mime_tool.specs.Explain.{IsExplain}
 use Rattle.mime_tool.specs.Files.{Stored, Writing}
 use Rattle.mime_tool.specs.Icon.{IsIcon}
@@ -79,13 +79,13 @@ LeavesAsked process (build dirs drop_twins file) old new = LeavesBuilt process.e
 LeavesAsked process _ old new = new ≡ old
 
 -- the same of words
-abbrev pub Leaves : PlainProcess → Meaning → (List ℕ → Stored) → (List ℕ → Stored) → Type 0
-Leaves process (asks a) old new = LeavesAsked process a old new
-Leaves process (refused kinds) old new = new ≡ old
+abbrev pub LeavesFiles : PlainProcess → Meaning → (List ℕ → Stored) → (List ℕ → Stored) → Type 0
+LeavesFiles process (asks a) old new = LeavesAsked process a old new
+LeavesFiles process (refused kinds) old new = new ≡ old
 
 -- the setting stays, the run that the words ask for is done, up to the message of a stop, and this is
 -- left stored
 pub record Answers (process : PlainProcess) (m : Meaning) (before after : State) (result : Result ℕ Stop) : Type 0 where
   pub same_setting : after.setting ≡ before.setting
-  pub sinks : Ends (IsAnswer process before.setting.writes before.stored after.stored m) (names_of process before.stored m) before.sinks after.sinks result
-  pub leaves : Leaves process m before.stored after.stored
+  pub sinks : EndsOverFiles (IsAnswer process before.setting.writes before.stored after.stored m) (names_of process before.stored m) before.sinks after.sinks result
+  pub leaves : LeavesFiles process m before.stored after.stored

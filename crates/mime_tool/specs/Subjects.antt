@@ -18,11 +18,11 @@ names_in (of_list path) stored input = names_given (list_at path stored input)
 
 -- the runs over what is looked up, where this is stored and standard input gives this; IsOne says what the run over one
 -- name is, by the content of each
-abbrev pub AreRuns : PlainSubjects → (List ℕ → Stored) → Stored → ((List ℕ → Stored) → List ℕ → Run → Type 0) → List (List ℕ) → Run
+abbrev pub AreSubjectRuns : PlainSubjects → (List ℕ → Stored) → Stored → ((List ℕ → Stored) → List ℕ → Run → Type 0) → List (List ℕ) → Run
     → Type 0
-AreRuns (of_files files) stored input IsOne = IsEach (IsOne stored)
-AreRuns (of_input name) stored input IsOne = IsEach (IsOne (λ _. input))
-AreRuns (of_list path) stored input IsOne = AreListed (IsOne stored) path (list_at path stored input) 1
+AreSubjectRuns (of_files files) stored input IsOne = IsEach (IsOne stored)
+AreSubjectRuns (of_input name) stored input IsOne = IsEach (IsOne (λ _. input))
+AreSubjectRuns (of_list path) stored input IsOne = AreListed (IsOne stored) path (list_at path stored input) 1
 
 -- the words that are FILEs
 abbrev pub file_words : PlainSubjects → List (List ℕ)

@@ -14,7 +14,7 @@ use Rattle.mime_view.specs.declared.fault.CacheFault.{CacheFault}
 use Rattle.mime_request.specs.Request.{PlainDirectories, PlainSource, PlainSubjects, cache_of, made_of}
 use Rattle.mime_request.specs.declared.request.Options.{Options}
 use Rattle.mime_request.specs.declared.request.Output.{Output}
-use Rattle.mime_tool.specs.Cache.{IsAnsweredOr, IsRefused}
+use Rattle.mime_tool.specs.Cache.{IsAnsweredOr, IsCacheRefusal}
 use Rattle.mime_tool.specs.Directories.{IsCommand}
 use Rattle.mime_tool.specs.Files.{Stored}
 use Rattle.mime_tool.specs.Line.{IsTypeLine, PlainLookup, asked_order, name_for, with_inode}
@@ -23,7 +23,7 @@ use Rattle.mime_tool.specs.Plain.{AreTypeLines}
 use Rattle.mime_tool.specs.Process.{PlainProcess}
 use Rattle.mime_tool.specs.Run.{Run, cannot_read, printed, unanswered}
 use Rattle.mime_tool.specs.Sources.{IsOverFitting, IsSourceCommand}
-use Rattle.mime_tool.specs.Subjects.{AreRuns}
+use Rattle.mime_tool.specs.Subjects.{AreSubjectRuns}
 
 -- what `--cost` reports of an answer: the records that were visited, the bytes that were compared, and those that were read
 abbrev pub cost_text : Meter → ℕ → List ℕ
@@ -37,11 +37,11 @@ cost_tail false meter read = []
 
 -- `type` refuses the cache for this fault of a lookup of a name
 abbrev pub RefusesLookup : List ℕ → List ℕ → CacheFault → Type 0
-RefusesLookup cache name = IsRefused cache (IsLookUpFault cache name ⊥) IsWithinLimits
+RefusesLookup cache name = IsCacheRefusal cache (IsLookUpFault cache name ⊥) IsWithinLimits
 
 -- the line of a file: a type that the cache or the order has, and a cost within the bounds; where the cache spells a database,
 -- IsSaid holds of it, the type and the bytes that were read
-pub record IsLine (cache : List ℕ) (cost : Bool) (output : Output) (order : Order) (file : List ℕ) (IsSaid : PlainDatabase → List ℕ → ℕ → Type 0)
+pub record IsLookUpLine (cache : List ℕ) (cost : Bool) (output : Output) (order : Order) (file : List ℕ) (IsSaid : PlainDatabase → List ℕ → ℕ → Type 0)
     (run : Run) : Type 0 where
   pub kind : List ℕ
   pub meter : Meter
@@ -76,17 +76,17 @@ lookup_by path name_only cost output order cache = record {
   output = output;
   name_of = name_for order;
   IsTyped = λ content file. IsAnsweredOr path (RefusesLookup cache (name_for order file))
-      (IsLine cache cost output order file (IsChosen content order file));
+      (IsLookUpLine cache cost output order file (IsChosen content order file));
   IsUnread = λ file. IsAnsweredOr path (RefusesLookup cache (name_for order file))
-      (λ run. IsLine cache cost output order file (IsChosenByGlobs order file) run ⊎ CannotBeRead cache output order file run);
+      (λ run. IsLookUpLine cache cost output order file (IsChosenByGlobs order file) run ⊎ CannotBeRead cache output order file run);
   IsGuessed = λ file. IsAnsweredOr path (RefusesLookup cache (name_for order file))
-      (λ run. IsLine cache cost output order file (λ _ _ _. ⊤) run ⊎ CannotBeRead cache output order file run);
+      (λ run. IsLookUpLine cache cost output order file (λ _ _ _. ⊤) run ⊎ CannotBeRead cache output order file run);
 }
 
 -- the lines of what is looked up by a cache at this path with these options, where this is stored and standard input gives this
 abbrev pub AreLinesBy : PlainSubjects → (List ℕ → Stored) → Stored → Options → List ℕ → List ℕ → List (List ℕ) → Run → Type 0
 AreLinesBy subjects stored input options path cache =
-    AreRuns subjects stored input (IsTypeLine (with_inode options.inode
+    AreSubjectRuns subjects stored input (IsTypeLine (with_inode options.inode
     (lookup_by path options.name_only options.cost options.output (asked_order options) cache)))
 
 -- the run of `type` by a cache, which is stored or is made of directories

@@ -7,7 +7,7 @@ ghost use Rattle.mime_base.specs.Database.{plain_database};
 ghost use Rattle.mime_request.specs.Request.{plain_directories};
 ghost use Rattle.mime_tool.specs.Build.{Builds, BuildsOver, BuildsWhere, Fits, GivesCache, IsPrintOver, IsPrinted, no_terminal};
 ghost use Rattle.mime_tool.specs.Build.{too_large, written_of};
-ghost use Rattle.mime_tool.specs.Desk.{Does, Ends, Works};
+ghost use Rattle.mime_tool.specs.Desk.{Does, EndsOverFiles, Works};
 ghost use Rattle.mime_tool.specs.Directories.{IsCommand};
 ghost use Rattle.mime_tool.specs.Environment.{known_environment};
 ghost use Rattle.mime_tool.specs.Run.{printed};
@@ -58,7 +58,7 @@ fn print<D: Desk>(
     directories: &Directories<'_>,
     drop_twins: bool,
 ) -> Result<u8, Stop>
-    ensures { Works (Ends (IsPrinted to_terminal (D.state desk.old).stored (known_environment environment.entry)
+    ensures { Works (EndsOverFiles (IsPrinted to_terminal (D.state desk.old).stored (known_environment environment.entry)
         (plain_directories directories.now) drop_twins) []) (D.state desk.old) (D.state desk.new) result }
 {
     if to_terminal {
@@ -83,7 +83,7 @@ fn print_made<D: Desk>(
     directories: &Directories<'_>,
     drop_twins: bool,
 ) -> Result<u8, Stop>
-    ensures { Works (Ends (IsCommand (D.state desk.old).stored None (known_environment environment.entry) (plain_directories directories.now)
+    ensures { Works (EndsOverFiles (IsCommand (D.state desk.old).stored None (known_environment environment.entry) (plain_directories directories.now)
         (λ database _. IsPrintOver (written_of drop_twins database))) []) (D.state desk.old) (D.state desk.new) result }
 {
     let database = load(desk, environment, directories, None)?;
@@ -92,7 +92,7 @@ fn print_made<D: Desk>(
 }
 
 fn print_over<D: Desk>(desk: &mut D, database: &Database) -> Result<u8, Stop>
-    ensures { Works (Ends (λ _. IsPrintOver (plain_database database.now)) []) (D.state desk.old) (D.state desk.new) result }
+    ensures { Works (EndsOverFiles (λ _. IsPrintOver (plain_database database.now)) []) (D.state desk.old) (D.state desk.new) result }
 {
     let cache = cache_of(desk.alloc(), database)?;
     print_bytes(desk, cache.as_slice())?;

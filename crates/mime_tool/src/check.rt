@@ -7,7 +7,7 @@ ghost use Rattle.mime_load.specs.Lent.{plain_lists};
 ghost use Rattle.mime_request.specs.Request.{plain_source};
 ghost use Rattle.mime_tool.specs.Cache.{GivesOrRefuses};
 ghost use Rattle.mime_tool.specs.Check.{IsCheck, IsCheckOver, IsFew, IsTold, ReadsBack, RefusesToOpen, count_lines, first_lines, no_database};
-ghost use Rattle.mime_tool.specs.Desk.{Does, Ends, Works};
+ghost use Rattle.mime_tool.specs.Desk.{Does, EndsOverFiles, Works};
 ghost use Rattle.mime_tool.specs.Environment.{known_environment};
 ghost use Rattle.mime_tool.specs.Run.{printed, refusal, unanswered};
 
@@ -35,7 +35,7 @@ pub(crate) fn check<D: Desk>(
     source: &Source<'_>,
 ) -> Result<u8, Stop>
     // It prints how much the stored cache has, or says what is wrong with it.
-    ensures { Works (Ends (IsCheck (D.state desk.old).stored (known_environment environment.entry) (plain_source source.now)) [])
+    ensures { Works (EndsOverFiles (IsCheck (D.state desk.old).stored (known_environment environment.entry) (plain_source source.now)) [])
         (D.state desk.old) (D.state desk.new) result }
 {
     let cache = read_source(desk, environment, source)?;
@@ -43,7 +43,7 @@ pub(crate) fn check<D: Desk>(
 }
 
 fn check_cache<D: Desk>(desk: &mut D, path: &str, cache: &[u8]) -> Result<u8, Stop>
-    ensures { Works (Ends (IsCheckOver path.now cache.now) [])
+    ensures { Works (EndsOverFiles (IsCheckOver path.now cache.now) [])
         (D.state desk.old) (D.state desk.new) result }
 {
     open(desk.alloc(), path, cache)?;
@@ -75,7 +75,7 @@ pub(crate) fn lists_of<'a>(alloc: Global, cache: &'a [u8]) -> Result<Lists<'a>, 
 // Prints what was read back, or says what was not.
 fn tell<D: Desk>(desk: &mut D, path: &str, read: &Result<Lists<'_>, LoadFault>) -> Result<u8, Stop>
     requires few { IfOk read.now (λ lists. IsFew (plain_lists lists)) }
-    ensures { Works (Ends (λ _. IsTold path.now read.now) []) (D.state desk.old) (D.state desk.new) result }
+    ensures { Works (EndsOverFiles (λ _. IsTold path.now read.now) []) (D.state desk.old) (D.state desk.new) result }
 {
     match read {
         Ok(lists) => print_counts(desk, counts_of(lists)),
@@ -85,7 +85,7 @@ fn tell<D: Desk>(desk: &mut D, path: &str, read: &Result<Lists<'_>, LoadFault>) 
 }
 
 fn print_counts<D: Desk>(desk: &mut D, counts: Counts) -> Result<u8, Stop>
-    ensures { Works (Ends (λ _ run. run ≡ printed (count_lines counts)) [])
+    ensures { Works (EndsOverFiles (λ _ run. run ≡ printed (count_lines counts)) [])
         (D.state desk.old) (D.state desk.new) result }
 {
     let text = text_of(desk.alloc(), counts)?;
@@ -132,7 +132,7 @@ fn print_text<D: Desk>(desk: &mut D, text: &str) -> Result<(), Stop>
 /// Says which part is not read back.
 pub(crate) fn refuse<D: Desk>(desk: &mut D, path: &str, part: Part) -> Result<u8, Stop>
     // The message names the part, and the file counts as one that wasn't answered.
-    ensures { Works (Ends (λ _ run. run ≡ unanswered (refusal path.now (no_database part))) [])
+    ensures { Works (EndsOverFiles (λ _ run. run ≡ unanswered (refusal path.now (no_database part))) [])
         (D.state desk.old) (D.state desk.new) result }
 {
     report(desk, path.as_bytes(), no_database(part))?;

@@ -7,7 +7,7 @@ ghost use Rattle.clap.specs.Walk.{texts};
 ghost use Rattle.mime_load.specs.Lent.{plain_lists};
 ghost use Rattle.mime_request.specs.Request.{plain_source};
 ghost use Rattle.mime_tool.specs.Check.{IsReadBack, ReadsBack};
-ghost use Rattle.mime_tool.specs.Desk.{Does, Ends, Works};
+ghost use Rattle.mime_tool.specs.Desk.{Does, EndsOverFiles, Works};
 ghost use Rattle.mime_tool.specs.Environment.{known_environment};
 ghost use Rattle.mime_tool.specs.Explain.{IsExplain, IsExplainOver, IsExplainedBack, IsExplainedOrNot, explained_by};
 ghost use Rattle.mime_tool.specs.ExplainSteps.{ComesToText, GivesText, IsReady, database_of, looks_of, run_of_text};
@@ -75,7 +75,7 @@ pub(crate) fn explain<D: Desk>(
     raws: &[RawWord<'_>],
 ) -> Result<u8, Stop>
     // Each file has its lines in order, or a message that says why it has none.
-    ensures { Works (Ends (IsExplain (D.state desk.old).stored (known_environment environment.entry) (plain_source source.now) options)
+    ensures { Works (EndsOverFiles (IsExplain (D.state desk.old).stored (known_environment environment.entry) (plain_source source.now) options)
         (names_of raws.now (texts files.now))) (D.state desk.old) (D.state desk.new) result }
 {
     let cache = read_source(desk, environment, source)?;
@@ -98,7 +98,7 @@ fn explain_by<D: Desk>(
     files: &[&str],
     raws: &[RawWord<'_>],
 ) -> Result<u8, Stop>
-    ensures { Works (Ends (IsExplainOver (D.state desk.old).stored options path.now bytes.now)
+    ensures { Works (EndsOverFiles (IsExplainOver (D.state desk.old).stored options path.now bytes.now)
         (names_of raws.now (texts files.now))) (D.state desk.old) (D.state desk.new) result }
 {
     open(desk.alloc(), path, bytes)?;
@@ -117,7 +117,7 @@ fn explain_read<'l, 'b: 'l, D: Desk>(
     raws: &[RawWord<'_>],
 ) -> Result<u8, Stop>
     requires back { ReadsBack bytes.now read.now }
-    ensures { Works (Ends (IsExplainedOrNot (D.state desk.old).stored options path.now bytes.now)
+    ensures { Works (EndsOverFiles (IsExplainedOrNot (D.state desk.old).stored options path.now bytes.now)
         (names_of raws.now (texts files.now))) (D.state desk.old) (D.state desk.new) result }
 {
     match read {
@@ -137,7 +137,7 @@ fn explain_lists<'l, 'b: 'l, D: Desk>(
     raws: &[RawWord<'_>],
 ) -> Result<u8, Stop>
     requires back { IsReadBack bytes.now (plain_lists lists.now) }
-    ensures { Works (Ends (IsExplainedBack (D.state desk.old).stored options (plain_lists lists.now))
+    ensures { Works (EndsOverFiles (IsExplainedBack (D.state desk.old).stored options (plain_lists lists.now))
         (names_of raws.now (texts files.now))) (D.state desk.old) (D.state desk.new) result }
 {
     let rules = rules_of(desk.alloc(), lists)?;
@@ -160,7 +160,7 @@ fn print_files<D: Desk>(
     raws: &[RawWord<'_>],
 ) -> Result<u8, Stop>
     requires ready { IsReady explaining }
-    ensures { Works (Ends (IsEach (IsTypeLine (looks_of explaining.entry) (D.state desk.old).stored))
+    ensures { Works (EndsOverFiles (IsEach (IsTypeLine (looks_of explaining.entry) (D.state desk.old).stored))
         (names_of raws.now (texts files.now))) (D.state desk.old) (D.state desk.new) result }
 {
     let mut status = ANSWERED;
@@ -177,7 +177,7 @@ fn print_file<D: Desk>(
     file: &[u8],
 ) -> Result<u8, Stop>
     requires ready { IsReady explaining }
-    ensures { Works (Ends (λ _. IsTypeLine (looks_of explaining.entry) (D.state desk.old).stored file.now) [])
+    ensures { Works (EndsOverFiles (λ _. IsTypeLine (looks_of explaining.entry) (D.state desk.old).stored file.now) [])
         (D.state desk.old) (D.state desk.new) result }
 {
     let explained = explained_of(desk, explaining, file)?;
@@ -236,7 +236,7 @@ fn print_explained<D: Desk>(
     file: &[u8],
     explained: &Explained,
 ) -> Result<u8, Stop>
-    ensures { Works (Ends (λ _ run. run ≡ run_of_text (written output file.now) explained.now) [])
+    ensures { Works (EndsOverFiles (λ _ run. run ≡ run_of_text (written output file.now) explained.now) [])
         (D.state desk.old) (D.state desk.new) result }
 {
     match explained {
@@ -248,7 +248,7 @@ fn print_explained<D: Desk>(
 }
 
 fn print_lines<D: Desk>(desk: &mut D, lines: &[u8]) -> Result<u8, Stop>
-    ensures { Works (Ends (λ _ run. run ≡ printed lines.now) [])
+    ensures { Works (EndsOverFiles (λ _ run. run ≡ printed lines.now) [])
         (D.state desk.old) (D.state desk.new) result }
 {
     print_bytes(desk, lines)?;

@@ -7,13 +7,12 @@ ghost use Rattle.mime_base.specs.Format.Room.{room};
 ghost use Rattle.mime_base.specs.Format.Spells.{cache_limit};
 ghost use Rattle.mime_lookup.specs.CheckingOrder.{globs_suffice};
 ghost use Rattle.mime_lookup.specs.Content.{Advances, GivesUp, OfReader, Retries, known_content, sound};
-ghost use Rattle.mime_text.specs.Merging.{plain_dir, plain_dirs};
+ghost use Rattle.mime_text.specs.DirTexts.{FirstRefused, SayDatabase};
 ghost use Rattle.mime_text.specs.declared.magic.fault.MagicFault.{MagicFault};
 ghost use Rattle.mime_tool.specs.Build.{IsCacheOf};
-ghost use Rattle.mime_tool.specs.Directories.{IsMagic, plain_magic};
-ghost use Rattle.mime_tool.specs.FromTexts.{AsksOnly, AsksReader, ComesOver, FirstRefused, IfStopped, IsFaultIn, IsFaultOfDirs};
-ghost use Rattle.mime_tool.specs.FromTexts.{IsMagicRefusal, IsStoreFault, SayDatabase, SayDirs, SaysDir, TookBytes};
-ghost use Rattle.mime_tool.specs.FromTexts.{VisibleChoosesAlike, VisibleReadsAlike, VisibleSufficesAlike, of_stopped, of_store};
+ghost use Rattle.mime_tool.specs.FromTexts.{AsksOnly, AsksReader, ComesOver, IfStopped, IsMagicRefusal, IsReadFault, IsStoreFault};
+ghost use Rattle.mime_tool.specs.FromTexts.{TookBytes, VisibleChoosesAlike, VisibleReadsAlike, VisibleSufficesAlike};
+ghost use Rattle.mime_tool.specs.FromTexts.{of_dirs, of_stopped, of_store};
 ghost use Rattle.mime_tool.specs.declared.from_texts.AnswerFault.TheVariants as faults;
 
 use mime_base::{
@@ -21,28 +20,9 @@ use mime_base::{
 };
 use mime_lookup::{Answer, Cause, Content, Order, Stopped, look_up};
 use mime_store::{StoreFault, write_cache};
-use mime_text::{
-    DirFiles, MagicFault, MagicFile, merge_visible, read_globs2, read_icons, read_magic, read_pairs,
-};
-use std::alloc::{AllocError, AllocFailed, Global};
+use mime_text::{DirTexts, DirsFault, MagicFault, merge_visible, read_dirs};
+use std::alloc::{AllocError, Global};
 use thiserror::Error;
-
-/// The text files of one data directory. A missing file is one of no bytes.
-#[derive(Clone, Copy)]
-pub struct DirBytes<'a> {
-    /// The file `globs2`.
-    pub globs2: &'a [u8],
-    /// The file `magic`.
-    pub magic: &'a [u8],
-    /// The file `aliases`.
-    pub aliases: &'a [u8],
-    /// The file `subclasses`.
-    pub subclasses: &'a [u8],
-    /// The file `icons`.
-    pub icons: &'a [u8],
-    /// The file `generic-icons`.
-    pub generic_icons: &'a [u8],
-}
 
 /// The type of a file, and what it took to find it.
 #[derive(Debug, Drop)]
@@ -88,11 +68,18 @@ impl From<AllocError> for AnswerFault {
     }
 }
 
-impl<T: Drop> From<AllocFailed<T>> for AnswerFault {
-    ghost from_gives = { λ _ fault. fault ≡ faults.OutOfMemory };
+impl From<DirsFault> for AnswerFault {
+    ghost from_gives = { λ dirs fault. fault ≡ of_dirs dirs };
 
-    fn from(_error: AllocFailed<T>) -> AnswerFault {
-        AnswerFault::OutOfMemory
+    fn from(fault: DirsFault) -> AnswerFault {
+        match fault {
+            DirsFault::Magic {
+                directory,
+                kind,
+                offset,
+            } => AnswerFault::Magic(directory, MagicFault::Malformed { kind, offset }),
+            DirsFault::OutOfMemory => AnswerFault::OutOfMemory,
+        }
     }
 }
 
@@ -135,7 +122,7 @@ impl From<Stopped> for AnswerFault {
 /// there is one and a read of it failed, or a 1,001st interruption came. This project's own.
 pub fn answer<R: Content>(
     alloc: Global,
-    dirs: &[DirBytes<'_>],
+    dirs: &[DirTexts<'_>],
     name: &[u8],
     content: &mut Option<R>,
     host: Host,
@@ -183,58 +170,13 @@ pub fn visible_chooses_alike()
 {}
 
 // The database of the directories.
-fn read_database(alloc: Global, dirs: &[DirBytes<'_>]) -> Result<Database, AnswerFault>
+fn read_database(alloc: Global, dirs: &[DirTexts<'_>]) -> Result<Database, AnswerFault>
     ensures says { IfOk result (λ database. SayDatabase dirs.now (plain_database database)) }
-    ensures fault { IfErr result (IsFaultOfDirs dirs.now) }
+    ensures fault { IfErr result (IsReadFault dirs.now) }
 {
     let files = read_dirs(alloc, dirs)?;
     let database = merge_visible(alloc, files)?;
     Ok(database)
-}
-
-fn read_dirs(alloc: Global, dirs: &[DirBytes<'_>]) -> Result<Vec<DirFiles>, AnswerFault>
-    ensures says { IfOk result (λ files. SayDirs dirs.now (plain_dirs files.items)) }
-    ensures fault { IfErr result (IsFaultOfDirs dirs.now) }
-{
-    let mut files = Vec::new(alloc);
-    for (number, dir) in dirs.iter().enumerate() {
-        let read = read_dir(alloc, number, dir)?;
-        files.push(read)?;
-    }
-    Ok(files)
-}
-
-// What the files of the directory of this number say.
-fn read_dir(alloc: Global, number: usize, dir: &DirBytes<'_>) -> Result<DirFiles, AnswerFault>
-    ensures says { IfOk result (λ files. SaysDir dir.now (plain_dir files)) }
-    ensures fault { IfErr result (IsFaultIn dir.now.magic.now number) }
-{
-    let globs = read_globs2(alloc, dir.globs2)?;
-    let magic = read_numbered(alloc, number, dir.magic)?;
-    let aliases = read_pairs(alloc, dir.aliases)?;
-    let subclasses = read_pairs(alloc, dir.subclasses)?;
-    let icons = read_icons(alloc, dir.icons)?;
-    let generic_icons = read_icons(alloc, dir.generic_icons)?;
-    Ok(DirFiles {
-        globs,
-        magic,
-        aliases,
-        subclasses,
-        icons,
-        generic_icons,
-    })
-}
-
-// The file `magic` of the directory of this number.
-fn read_numbered(alloc: Global, number: usize, text: &[u8]) -> Result<MagicFile, AnswerFault>
-    ensures says { IfOk result (λ file. IsMagic text.now (plain_magic file)) }
-    ensures fault { IfErr result (IsFaultIn text.now number) }
-{
-    match read_magic(alloc, text) {
-        Ok(file) => Ok(file),
-        Err(MagicFault::OutOfMemory) => Err(AnswerFault::OutOfMemory),
-        Err(fault) => Err(AnswerFault::Magic(number, fault)),
-    }
 }
 
 fn answer_over<R: Content>(

@@ -4,7 +4,7 @@ ghost use Rattle.std.specs.Prelude.{[]};
 ghost use Rattle.mime_lookup.specs.Icons.{plain_icons_of};
 ghost use Rattle.mime_request.specs.Request.{plain_source};
 ghost use Rattle.mime_tool.specs.Cache.{GivesOrRefuses};
-ghost use Rattle.mime_tool.specs.Desk.{Does, Ends, Works};
+ghost use Rattle.mime_tool.specs.Desk.{Does, EndsOverFiles, Works};
 ghost use Rattle.mime_tool.specs.Environment.{known_environment};
 ghost use Rattle.mime_tool.specs.Icon.{AreIconsOf, IsIcon, IsIconOver, RefusesIcons, printed_icons};
 ghost use Rattle.mime_tool.specs.Run.{printed};
@@ -32,7 +32,7 @@ pub(crate) fn icon<D: Desk>(
     kind: &str,
 ) -> Result<u8, Stop>
     // It prints the icon and the generic icon of the type, or says what is wrong with the word or the cache.
-    ensures { Works (Ends (IsIcon (D.state desk.old).stored (known_environment environment.entry) (plain_source source.now) kind.now) [])
+    ensures { Works (EndsOverFiles (IsIcon (D.state desk.old).stored (known_environment environment.entry) (plain_source source.now) kind.now) [])
         (D.state desk.old) (D.state desk.new) result }
 {
     let Some(name) = type_name(desk.alloc(), kind)? else {
@@ -47,7 +47,7 @@ fn icon_by<D: Desk>(
     source: &Source<'_>,
     kind: &TypeName,
 ) -> Result<u8, Stop>
-    ensures { Works (Ends (IsSourceCommand (D.state desk.old).stored (known_environment environment.entry) (plain_source source.now)
+    ensures { Works (EndsOverFiles (IsSourceCommand (D.state desk.old).stored (known_environment environment.entry) (plain_source source.now)
         (λ path. IsIconOver path kind.now)) []) (D.state desk.old) (D.state desk.new) result }
 {
     let cache = read_source(desk, environment, source)?;
@@ -55,7 +55,7 @@ fn icon_by<D: Desk>(
 }
 
 fn answer<D: Desk>(desk: &mut D, path: &str, cache: &[u8], kind: &TypeName) -> Result<u8, Stop>
-    ensures { Works (Ends (IsIconOver path.now kind.now cache.now) [])
+    ensures { Works (EndsOverFiles (IsIconOver path.now kind.now cache.now) [])
         (D.state desk.old) (D.state desk.new) result }
 {
     let icons = ask(desk.alloc(), path, cache, kind)?;

@@ -3,7 +3,7 @@
 ghost use Rattle.std.specs.Prelude.{◌≡◌, []};
 ghost use Rattle.mime_request.specs.Request.{plain_source};
 ghost use Rattle.mime_tool.specs.Cache.{GivesOrRefuses};
-ghost use Rattle.mime_tool.specs.Desk.{Does, Ends, Works};
+ghost use Rattle.mime_tool.specs.Desk.{Does, EndsOverFiles, Works};
 ghost use Rattle.mime_tool.specs.Environment.{known_environment};
 ghost use Rattle.mime_tool.specs.IsA.{IsAnswerOver, IsSaid, IsSubclassRun, RefusesPairs, answer_run};
 ghost use Rattle.mime_tool.specs.Run.{printed};
@@ -32,7 +32,7 @@ pub(crate) fn is_a<D: Desk>(
     base: &str,
 ) -> Result<u8, Stop>
     // It prints whether the one is a subclass of the other, or says what is wrong with a word or the cache.
-    ensures { Works (Ends (IsSubclassRun (D.state desk.old).stored (known_environment environment.entry) (plain_source source.now)
+    ensures { Works (EndsOverFiles (IsSubclassRun (D.state desk.old).stored (known_environment environment.entry) (plain_source source.now)
         kind.now base.now) []) (D.state desk.old) (D.state desk.new) result }
 {
     let Some(kind_name) = type_name(desk.alloc(), kind)? else {
@@ -51,7 +51,7 @@ fn is_a_by<D: Desk>(
     kind: &TypeName,
     base: &TypeName,
 ) -> Result<u8, Stop>
-    ensures { Works (Ends (IsSourceCommand (D.state desk.old).stored (known_environment environment.entry) (plain_source source.now)
+    ensures { Works (EndsOverFiles (IsSourceCommand (D.state desk.old).stored (known_environment environment.entry) (plain_source source.now)
         (λ path. IsAnswerOver path kind.now base.now)) []) (D.state desk.old) (D.state desk.new) result }
 {
     let cache = read_source(desk, environment, source)?;
@@ -65,7 +65,7 @@ fn answer<D: Desk>(
     kind: &TypeName,
     base: &TypeName,
 ) -> Result<u8, Stop>
-    ensures { Works (Ends (IsAnswerOver path.now kind.now base.now cache.now) [])
+    ensures { Works (EndsOverFiles (IsAnswerOver path.now kind.now base.now cache.now) [])
         (D.state desk.old) (D.state desk.new) result }
 {
     let yes = ask(desk.alloc(), path, cache, kind, base)?;
@@ -88,7 +88,7 @@ fn ask(
 }
 
 fn print_answer<D: Desk>(desk: &mut D, yes: bool) -> Result<u8, Stop>
-    ensures { Works (Ends (λ _ run. run ≡ answer_run yes) []) (D.state desk.old) (D.state desk.new) result }
+    ensures { Works (EndsOverFiles (λ _ run. run ≡ answer_run yes) []) (D.state desk.old) (D.state desk.new) result }
 {
     if yes {
         print_line(desk, b"yes\n")?;

@@ -50,8 +50,9 @@ mod words;
 
 pub use environment::Environment;
 pub use files::{FileFault, Files, Inode};
-pub use from_texts::{AnswerFault, DirBytes, OwnedAnswer, answer, visible_chooses_alike};
+pub use from_texts::{AnswerFault, OwnedAnswer, answer, visible_chooses_alike};
 pub use mime_lookup::{Content, Untold};
+pub use mime_text::DirTexts;
 pub use process::Process;
 pub use program::run;
 pub use sink::{Sink, SinkFault};

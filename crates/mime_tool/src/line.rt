@@ -2,10 +2,10 @@
 
 ghost use Rattle.std.specs.Prelude.{◌≡◌, IfOk, [], string_bytes};
 ghost use Rattle.clap.specs.Walk.{texts};
-ghost use Rattle.mime_tool.specs.Desk.{Does, Ends, Works};
+ghost use Rattle.mime_tool.specs.Desk.{Does, EndsOverFiles, Works};
 ghost use Rattle.mime_tool.specs.Line.{IsAskedKind, IsTypeLine, base_name, inode_name};
 ghost use Rattle.mime_tool.specs.Files.{Stored};
-ghost use Rattle.mime_tool.specs.LineSteps.{ComesTo, IsContent, IsOfSource, LooksUp, LooksUpHere, plain_lookup, run_of, tail_of};
+ghost use Rattle.mime_tool.specs.LineSteps.{ComesTo, IsContent, IsOfSource, LooksUpFile, LooksUpHere, plain_lookup, run_of, tail_of_cost};
 ghost use Rattle.mime_tool.specs.Output.{answer_end, answer_of, separator, written};
 ghost use Rattle.mime_tool.specs.Run.{IsEach, printed, refusal, unanswered};
 ghost use Rattle.mime_tool.specs.Types.{cost_text};
@@ -49,7 +49,7 @@ pub(crate) fn print_lines<D: Desk>(
     raws: &[RawWord<'_>],
 ) -> Result<u8, Stop>
     // Each file has its line in order, or a message that says why it has none.
-    ensures { Works (Ends (IsEach (IsTypeLine (plain_lookup lookup.entry) (D.state desk.old).stored))
+    ensures { Works (EndsOverFiles (IsEach (IsTypeLine (plain_lookup lookup.entry) (D.state desk.old).stored))
         (names_of raws.now (texts files.now))) (D.state desk.old) (D.state desk.new) result }
 {
     let mut prepared = Prepared::new(lookup);
@@ -66,7 +66,7 @@ fn print_each<D: Desk>(
     raws: &[RawWord<'_>],
 ) -> Result<u8, Stop>
     requires { IsOfSource prepared.old }
-    ensures { Works (Ends (IsEach (IsTypeLine (plain_lookup prepared.old.lookup) (D.state desk.old).stored))
+    ensures { Works (EndsOverFiles (IsEach (IsTypeLine (plain_lookup prepared.old.lookup) (D.state desk.old).stored))
         (names_of raws.now (texts files.now))) (D.state desk.old) (D.state desk.new) result }
 {
     let mut status = ANSWERED;
@@ -86,7 +86,7 @@ pub(crate) fn print_line<D: Desk>(
     // What was prepared is of the cache or the database that is looked up in.
     requires { IsOfSource prepared.old }
     // It is looked up as without what was prepared.
-    ensures line { Works (Ends (λ _. IsTypeLine (plain_lookup prepared.old.lookup) (D.state desk.old).stored file.now) [])
+    ensures line { Works (EndsOverFiles (λ _. IsTypeLine (plain_lookup prepared.old.lookup) (D.state desk.old).stored file.now) [])
         (D.state desk.old) (D.state desk.new) result }
     // So is the next one.
     ensures lookup { prepared.new.lookup ≡ prepared.old.lookup }
@@ -169,7 +169,7 @@ fn find_watched<'i, R: Content + Drop>(
     asked: &mut bool,
 ) -> Result<Outcome<'i>, Stop>
     ensures { (stored : Stored) → IsContent R.remaining R.health lookup.entry.name_only stored content
-        → LooksUp (plain_lookup lookup.entry) stored file.now result }
+        → LooksUpFile (plain_lookup lookup.entry) stored file.now result }
 {
     let mut watched = Watched::of(content);
     let outcome = find(alloc, lookup, file, &mut watched);
@@ -187,7 +187,7 @@ pub(crate) fn print_outcome<D: Desk>(
     outcome: Outcome<'_>,
 ) -> Result<u8, Stop>
     // It prints the line of an answer, and the message of a fault.
-    ensures { Works (Ends (λ _ run. run ≡ run_of output (written output file.now) outcome.entry) [])
+    ensures { Works (EndsOverFiles (λ _ run. run ≡ run_of output (written output file.now) outcome.entry) [])
         (D.state desk.old) (D.state desk.new) result }
 {
     if output.escape {
@@ -207,7 +207,7 @@ fn print_named<D: Desk>(
     name: &[u8],
     outcome: Outcome<'_>,
 ) -> Result<u8, Stop>
-    ensures { Works (Ends (λ _ run. run ≡ run_of output name.now outcome.entry) [])
+    ensures { Works (EndsOverFiles (λ _ run. run ≡ run_of output name.now outcome.entry) [])
         (D.state desk.old) (D.state desk.new) result }
 {
     match outcome {
@@ -227,7 +227,7 @@ fn print_type<D: Desk>(
     kind: &[u8],
     cost: Cost,
 ) -> Result<u8, Stop>
-    ensures { Works (Ends (λ _ run. run ≡ printed (answer_of output name.now (written output kind.now) (tail_of cost))) [])
+    ensures { Works (EndsOverFiles (λ _ run. run ≡ printed (answer_of output name.now (written output kind.now) (tail_of_cost cost))) [])
         (D.state desk.old) (D.state desk.new) result }
 {
     print_kind(desk, output, name, kind, cost)?;
@@ -243,7 +243,7 @@ fn print_kind<D: Desk>(
     kind: &[u8],
     cost: Cost,
 ) -> Result<(), Stop>
-    ensures { Works (Does (printed (answer_of output name.now (written output kind.now) (tail_of cost))))
+    ensures { Works (Does (printed (answer_of output name.now (written output kind.now) (tail_of_cost cost))))
         (D.state desk.old) (D.state desk.new) result }
 {
     if output.escape {
@@ -264,7 +264,7 @@ fn print_told<D: Desk>(
     kind: &[u8],
     cost: Cost,
 ) -> Result<(), Stop>
-    ensures { Works (Does (printed (answer_of output name.now kind.now (tail_of cost))))
+    ensures { Works (Does (printed (answer_of output name.now kind.now (tail_of_cost cost))))
         (D.state desk.old) (D.state desk.new) result }
 {
     if cost.is_told {
@@ -324,7 +324,7 @@ pub(crate) fn answer_end<'a>(output: Output) -> &'a [u8]
 /// Says why a file has no line.
 pub(crate) fn refuse<D: Desk>(desk: &mut D, file: &[u8], why: &str) -> Result<u8, Stop>
     // The message names the file and why, and the file counts as one that wasn't answered.
-    ensures { Works (Ends (λ _ run. run ≡ unanswered (refusal file.now why.now)) [])
+    ensures { Works (EndsOverFiles (λ _ run. run ≡ unanswered (refusal file.now why.now)) [])
         (D.state desk.old) (D.state desk.new) result }
 {
     report(desk, file, why)?;

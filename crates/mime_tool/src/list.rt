@@ -10,7 +10,7 @@ ghost use Rattle.mime_base.specs.Format.Spells.{Spells};
 ghost use Rattle.mime_view.specs.Listing.{plain_listed};
 ghost use Rattle.mime_request.specs.Request.{plain_source};
 ghost use Rattle.mime_tool.specs.Cache.{GivesOrRefuses};
-ghost use Rattle.mime_tool.specs.Desk.{Does, Ends, Works};
+ghost use Rattle.mime_tool.specs.Desk.{Does, EndsOverFiles, Works};
 ghost use Rattle.mime_tool.specs.Environment.{known_environment};
 ghost use Rattle.mime_tool.specs.List.{AreRulesOf, HasListedRules, IsList, IsListOver, IsUnlisted};
 ghost use Rattle.mime_tool.specs.List.{RefusesRules, cased_mark, rule_line};
@@ -35,7 +35,7 @@ pub(crate) fn list<D: Desk>(
     source: &Source<'_>,
 ) -> Result<u8, Stop>
     // It prints the rules of the stored cache in its order, or says what is wrong with it.
-    ensures { Works (Ends (IsList (D.state desk.old).stored (known_environment environment.entry) (plain_source source.now)) [])
+    ensures { Works (EndsOverFiles (IsList (D.state desk.old).stored (known_environment environment.entry) (plain_source source.now)) [])
         (D.state desk.old) (D.state desk.new) result }
 {
     let cache = read_source(desk, environment, source)?;
@@ -43,7 +43,7 @@ pub(crate) fn list<D: Desk>(
 }
 
 fn list_cache<D: Desk>(desk: &mut D, path: &str, cache: &[u8]) -> Result<u8, Stop>
-    ensures { Works (Ends (IsListOver path.now cache.now) [])
+    ensures { Works (EndsOverFiles (IsListOver path.now cache.now) [])
         (D.state desk.old) (D.state desk.new) result }
 {
     let rules = rules_or_stop(desk.alloc(), path, cache)?;

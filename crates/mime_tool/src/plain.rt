@@ -2,7 +2,7 @@
 
 ghost use Rattle.mime_base.specs.Database.{plain_database};
 ghost use Rattle.mime_request.specs.Request.{plain_directories, plain_subjects};
-ghost use Rattle.mime_tool.specs.Desk.{Ends, Works};
+ghost use Rattle.mime_tool.specs.Desk.{EndsOverFiles, Works};
 ghost use Rattle.mime_tool.specs.Plain.{AreTypeLines, IsPlain};
 ghost use Rattle.mime_tool.specs.Process.{given_by, known_process};
 ghost use Rattle.mime_tool.specs.Subjects.{names_in};
@@ -31,7 +31,7 @@ pub(crate) fn print_types<D: Desk, I: Content + Drop>(
     raws: &[RawWord<'_>],
 ) -> Result<u8, Stop>
     // Each name has its line in order, or a message that says why it has none; names are those that were given, or are read of a list.
-    ensures { Works (Ends (IsPlain (D.state desk.old).stored (known_process I.remaining I.health process.entry)
+    ensures { Works (EndsOverFiles (IsPlain (D.state desk.old).stored (known_process I.remaining I.health process.entry)
         (plain_directories directories.now) options (named_subjects raws.now (plain_subjects subjects.now)))
         (names_in (named_subjects raws.now (plain_subjects subjects.now)) (D.state desk.old).stored
         (given_by (I.remaining process.entry.input) (I.health process.entry.input)))) (D.state desk.old) (D.state desk.new) result }
@@ -55,7 +55,7 @@ pub(crate) fn print_over<D: Desk, I: Content + Drop>(
     input: I,
 ) -> Result<u8, Stop>
     // Each line has a type that the checking order gives over the database.
-    ensures { Works (Ends (AreTypeLines (named_subjects raws.now (plain_subjects subjects.now)) (D.state desk.old).stored
+    ensures { Works (EndsOverFiles (AreTypeLines (named_subjects raws.now (plain_subjects subjects.now)) (D.state desk.old).stored
         (given_by (I.remaining input) (I.health input)) options (plain_database database.now))
         (names_in (named_subjects raws.now (plain_subjects subjects.now)) (D.state desk.old).stored
         (given_by (I.remaining input) (I.health input)))) (D.state desk.old) (D.state desk.new) result }

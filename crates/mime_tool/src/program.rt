@@ -5,7 +5,7 @@ ghost use Rattle.std.specs.Prelude.{◌≡◌, ◌≢◌, [], false, is_some, ma
 ghost use Rattle.clap.specs.Values.{kind_of};
 ghost use Rattle.clap.specs.Walk.{texts};
 ghost use Rattle.mime_request.specs.Request.{PlainRequest, asks, plain_request, plain_subjects};
-ghost use Rattle.mime_tool.specs.Desk.{Does, Ends, Works};
+ghost use Rattle.mime_tool.specs.Desk.{Does, EndsOverFiles, Works};
 ghost use Rattle.mime_tool.specs.Finish.{Finishes};
 ghost use Rattle.mime_tool.specs.Heard.{IsRefusedRun, IsReply, LeavesHeard, Replies, heard_names};
 ghost use Rattle.mime_tool.specs.Process.{known_process};
@@ -123,7 +123,7 @@ fn perform<F: Files, I: Content + Drop, O: Sink, E: Sink, S: AsStr>(
     out: &mut O,
     err: &mut E,
 ) -> Result<u8, Stop>
-    ensures ended { Ends
+    ensures ended { EndsOverFiles
         (IsReply (known_process I.remaining I.health process.entry) (F.writes files.old) (F.tells files.old) (F.tells files.new)
         (heard raws.now (map S.text words.now)))
         (heard_names (known_process I.remaining I.health process.entry) (F.tells files.old) (heard raws.now (map S.text words.now)))
@@ -251,7 +251,7 @@ fn answer<D: Desk, I: Content + Drop>(
 
 // Says which word is no text, or shows help or what is wrong with the words.
 fn refuse<D: Desk>(desk: &mut D, error: Error, raws: &[RawWord<'_>]) -> Result<u8, Stop>
-    ensures { Works (Ends (λ _. IsRefusedRun raws.now (kind_of error)) [])
+    ensures { Works (EndsOverFiles (λ _. IsRefusedRun raws.now (kind_of error)) [])
         (D.state desk.old) (D.state desk.new) result }
 {
     match raws {
@@ -261,7 +261,7 @@ fn refuse<D: Desk>(desk: &mut D, error: Error, raws: &[RawWord<'_>]) -> Result<u
 }
 
 fn show_word<D: Desk>(desk: &mut D, error: &Error, number: u64) -> Result<u8, Stop>
-    ensures { Works (Ends (λ _ run. (kind_of error.now ≢ ErrorKind.OutOfMemory) × (run ≡ mistaken (not_text number))) [])
+    ensures { Works (EndsOverFiles (λ _ run. (kind_of error.now ≢ ErrorKind.OutOfMemory) × (run ≡ mistaken (not_text number))) [])
         (D.state desk.old) (D.state desk.new) result }
 {
     if is_memory(error) {
@@ -272,7 +272,7 @@ fn show_word<D: Desk>(desk: &mut D, error: &Error, number: u64) -> Result<u8, St
 
 // Shows help, or says what is wrong with the words.
 fn show<D: Desk>(desk: &mut D, error: Error) -> Result<u8, Stop>
-    ensures { Works (Ends (λ _. IsShown (kind_of error)) [])
+    ensures { Works (EndsOverFiles (λ _. IsShown (kind_of error)) [])
         (D.state desk.old) (D.state desk.new) result }
 {
     if is_memory(&error) {
@@ -295,7 +295,7 @@ fn is_help(error: &Error) -> bool
 }
 
 fn show_text<D: Desk>(desk: &mut D, is_help: bool, text: &str) -> Result<u8, Stop>
-    ensures { Works (Ends (λ _ run. run ≡ shown is_help text.now) [])
+    ensures { Works (EndsOverFiles (λ _ run. run ≡ shown is_help text.now) [])
         (D.state desk.old) (D.state desk.new) result }
 {
     if is_help {

@@ -2,14 +2,14 @@
 
 ghost use Rattle.std.specs.Prelude.{◌≡◌, [], ◌∷◌};
 ghost use Rattle.mime_request.specs.Request.{plain_subjects};
-ghost use Rattle.mime_tool.specs.Desk.{Ends, Works};
+ghost use Rattle.mime_tool.specs.Desk.{EndsOverFiles, Works};
 ghost use Rattle.mime_tool.specs.Line.{IsTypeLine};
-ghost use Rattle.mime_tool.specs.LineSteps.{IsOfSource, LooksUp, plain_lookup};
+ghost use Rattle.mime_tool.specs.LineSteps.{IsOfSource, LooksUpFile, plain_lookup};
 ghost use Rattle.mime_tool.specs.Names.{left_in};
 ghost use Rattle.mime_tool.specs.Listed.{AreListed, IsNumbered, empty_name, names_given};
 ghost use Rattle.mime_tool.specs.Process.{given_by};
 ghost use Rattle.mime_tool.specs.Run.{IsEach, unanswered};
-ghost use Rattle.mime_tool.specs.Subjects.{AreRuns, list_at, names_in};
+ghost use Rattle.mime_tool.specs.Subjects.{AreSubjectRuns, list_at, names_in};
 ghost use Rattle.mime_tool.specs.Words.{named_subjects};
 
 use crate::desk::Desk;
@@ -33,7 +33,7 @@ pub(crate) fn print_subjects<D: Desk, I: Content + Drop>(
     input: I,
 ) -> Result<u8, Stop>
     // Each line is that of its name and its content: what is stored, or standard input.
-    ensures { Works (Ends (AreRuns (named_subjects raws.now (plain_subjects subjects.now)) (D.state desk.old).stored
+    ensures { Works (EndsOverFiles (AreSubjectRuns (named_subjects raws.now (plain_subjects subjects.now)) (D.state desk.old).stored
         (given_by (I.remaining input) (I.health input)) (IsTypeLine (plain_lookup lookup.entry)))
         (names_in (named_subjects raws.now (plain_subjects subjects.now)) (D.state desk.old).stored
         (given_by (I.remaining input) (I.health input)))) (D.state desk.old) (D.state desk.new) result }
@@ -52,7 +52,7 @@ fn print_input<D: Desk, I: Content + Drop>(
     name: &[u8],
     input: I,
 ) -> Result<u8, Stop>
-    ensures { Works (Ends (IsEach (IsTypeLine (plain_lookup lookup.entry)
+    ensures { Works (EndsOverFiles (IsEach (IsTypeLine (plain_lookup lookup.entry)
         (λ _. given_by (I.remaining input) (I.health input)))) (name.now ∷ [])) (D.state desk.old) (D.state desk.new) result }
 {
     let outcome = input_outcome(desk.alloc(), lookup, name, input)?;
@@ -66,7 +66,7 @@ fn input_outcome<'i, I: Content + Drop>(
     name: &[u8],
     input: I,
 ) -> Result<Outcome<'i>, Stop>
-    ensures { LooksUp (plain_lookup lookup.entry) (given_by (I.remaining input) (I.health input)) name.now result }
+    ensures { LooksUpFile (plain_lookup lookup.entry) (given_by (I.remaining input) (I.health input)) name.now result }
 {
     let mut content = if lookup.name_only { None } else { Some(input) };
     find(alloc, lookup, name, &mut content)
@@ -79,7 +79,7 @@ fn print_list<D: Desk, I: Content + Drop>(
     path: &str,
     input: I,
 ) -> Result<u8, Stop>
-    ensures { Works (Ends (AreListed (IsTypeLine (plain_lookup lookup.entry) (D.state desk.old).stored) path.now
+    ensures { Works (EndsOverFiles (AreListed (IsTypeLine (plain_lookup lookup.entry) (D.state desk.old).stored) path.now
         (list_at path.now (D.state desk.old).stored (given_by (I.remaining input) (I.health input))) 1)
         (names_given (list_at path.now (D.state desk.old).stored (given_by (I.remaining input) (I.health input)))))
         (D.state desk.old) (D.state desk.new) result }
@@ -99,7 +99,7 @@ fn print_names<D: Desk, R: Content + Drop>(
     list: &str,
     reader: R,
 ) -> Result<u8, Stop>
-    ensures { Works (Ends (AreListed (IsTypeLine (plain_lookup lookup.entry) (D.state desk.old).stored) list.now
+    ensures { Works (EndsOverFiles (AreListed (IsTypeLine (plain_lookup lookup.entry) (D.state desk.old).stored) list.now
         (given_by (R.remaining reader) (R.health reader)) 1) (names_given (given_by (R.remaining reader) (R.health reader))))
         (D.state desk.old) (D.state desk.new) result }
 {
@@ -118,7 +118,7 @@ fn print_each<D: Desk, R: Content + Drop>(
     list: &str,
 ) -> Result<u8, Stop>
     requires { IsOfSource prepared.old }
-    ensures { Works (Ends (AreListed (IsTypeLine (plain_lookup prepared.old.lookup) (D.state desk.old).stored) list.now
+    ensures { Works (EndsOverFiles (AreListed (IsTypeLine (plain_lookup prepared.old.lookup) (D.state desk.old).stored) list.now
         (left_in R.remaining R.health names.old) 1) (names_given (left_in R.remaining R.health names.old)))
         (D.state desk.old) (D.state desk.new) result }
 {
@@ -144,7 +144,7 @@ fn print_name<D: Desk>(
     name: &[u8],
 ) -> Result<u8, Stop>
     requires { IsOfSource prepared.old }
-    ensures line { Works (Ends (λ _. IsNumbered (IsTypeLine (plain_lookup prepared.old.lookup) (D.state desk.old).stored)
+    ensures line { Works (EndsOverFiles (λ _. IsNumbered (IsTypeLine (plain_lookup prepared.old.lookup) (D.state desk.old).stored)
         list.now number name.now) []) (D.state desk.old) (D.state desk.new) result }
     ensures lookup { prepared.new.lookup ≡ prepared.old.lookup }
     ensures prepared { IsOfSource prepared.new }
@@ -157,7 +157,7 @@ fn print_name<D: Desk>(
 }
 
 fn refuse_empty<D: Desk>(desk: &mut D, list: &str, number: u64) -> Result<u8, Stop>
-    ensures { Works (Ends (λ _ run. run ≡ unanswered (empty_name list.now number)) []) (D.state desk.old) (D.state desk.new) result }
+    ensures { Works (EndsOverFiles (λ _ run. run ≡ unanswered (empty_name list.now number)) []) (D.state desk.old) (D.state desk.new) result }
 {
     let why = format!(in desk.alloc(); "name {number} is empty")?;
     refuse(desk, list.as_bytes(), why.as_str())

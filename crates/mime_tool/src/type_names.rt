@@ -3,7 +3,7 @@
 ghost use Rattle.std.specs.Prelude.{◌≡◌, IfOk, MatchOption, []};
 ghost use Rattle.std.specs.Prelude.{false, true};
 ghost use Rattle.mime_base.specs.Names.{is_type_name};
-ghost use Rattle.mime_tool.specs.Desk.{Ends, Works};
+ghost use Rattle.mime_tool.specs.Desk.{EndsOverFiles, Works};
 ghost use Rattle.mime_tool.specs.Run.{mistaken};
 ghost use Rattle.mime_tool.specs.TypeNames.{not_a_type};
 
@@ -29,7 +29,7 @@ pub(crate) fn type_name(alloc: Global, word: &str) -> Result<Option<TypeName>, O
 /// Says that the word is no type name, and gives the status.
 pub(crate) fn refuse<D: Desk>(desk: &mut D, word: &str) -> Result<u8, Stop>
     // The message names the word, and the status is that of a mistake.
-    ensures { Works (Ends (λ _ run. run ≡ mistaken (not_a_type word.now)) [])
+    ensures { Works (EndsOverFiles (λ _ run. run ≡ mistaken (not_a_type word.now)) [])
         (D.state desk.old) (D.state desk.new) result }
 {
     report(desk, b"not a type", word)?;

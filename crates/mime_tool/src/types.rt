@@ -4,7 +4,7 @@
 //! the same, and only whether the data fit in a cache is asked first.
 
 ghost use Rattle.mime_request.specs.Request.{plain_directories, plain_source, plain_subjects};
-ghost use Rattle.mime_tool.specs.Desk.{Ends, Works};
+ghost use Rattle.mime_tool.specs.Desk.{EndsOverFiles, Works};
 ghost use Rattle.mime_tool.specs.Process.{given_by, known_process};
 ghost use Rattle.mime_tool.specs.Types.{IsType, IsTypeByCache, IsTypeOver};
 ghost use Rattle.mime_tool.specs.Subjects.{names_in};
@@ -37,7 +37,7 @@ pub(crate) fn print_types<D: Desk, I: Content + Drop>(
     raws: &[RawWord<'_>],
 ) -> Result<u8, Stop>
     // Each name has its line in order, or a message that says why it has none; names are those that were given, or are read of a list.
-    ensures { Works (Ends (IsType (D.state desk.old).stored (known_process I.remaining I.health process.entry) (plain_source source.now)
+    ensures { Works (EndsOverFiles (IsType (D.state desk.old).stored (known_process I.remaining I.health process.entry) (plain_source source.now)
         options (named_subjects raws.now (plain_subjects subjects.now))) (names_in (named_subjects raws.now (plain_subjects subjects.now))
         (D.state desk.old).stored (given_by (I.remaining process.entry.input) (I.health process.entry.input))))
         (D.state desk.old) (D.state desk.new) result }
@@ -59,7 +59,7 @@ fn print_by_texts<D: Desk, I: Content + Drop>(
     subjects: &Subjects<'_>,
     raws: &[RawWord<'_>],
 ) -> Result<u8, Stop>
-    ensures { Works (Ends (IsTypeOver false (D.state desk.old).stored (known_process I.remaining I.health process.entry)
+    ensures { Works (EndsOverFiles (IsTypeOver false (D.state desk.old).stored (known_process I.remaining I.health process.entry)
         (plain_directories directories.now) options (named_subjects raws.now (plain_subjects subjects.now)))
         (names_in (named_subjects raws.now (plain_subjects subjects.now)) (D.state desk.old).stored
         (given_by (I.remaining process.entry.input) (I.health process.entry.input)))) (D.state desk.old) (D.state desk.new) result }
@@ -83,7 +83,7 @@ fn print_by_cache<D: Desk, I: Content + Drop>(
     subjects: &Subjects<'_>,
     raws: &[RawWord<'_>],
 ) -> Result<u8, Stop>
-    ensures { Works (Ends (IsTypeByCache (D.state desk.old).stored (known_process I.remaining I.health process.entry)
+    ensures { Works (EndsOverFiles (IsTypeByCache (D.state desk.old).stored (known_process I.remaining I.health process.entry)
         (plain_source source.now) options (named_subjects raws.now (plain_subjects subjects.now)))
         (names_in (named_subjects raws.now (plain_subjects subjects.now)) (D.state desk.old).stored
         (given_by (I.remaining process.entry.input) (I.health process.entry.input)))) (D.state desk.old) (D.state desk.new) result }

@@ -3,7 +3,7 @@
 ghost use Rattle.std.specs.Prelude.{◌≡◌, [], bytes_eq};
 ghost use Rattle.std.specs.List.{list_any};
 ghost use Rattle.clap.specs.Walk.{texts};
-ghost use Rattle.mime_tool.specs.Desk.{Does, Ends, Works};
+ghost use Rattle.mime_tool.specs.Desk.{Does, EndsOverFiles, Works};
 ghost use Rattle.mime_tool.specs.Run.{mistaken, said};
 ghost use Rattle.mime_tool.specs.Words.{misplaced, name_of, not_text};
 
@@ -62,7 +62,7 @@ fn is_among(files: &[&str], text: &str) -> bool
 /// Says that the word of this number is no text, and gives the status.
 pub(crate) fn refuse_word<D: Desk>(desk: &mut D, number: u64) -> Result<u8, Stop>
     // The message has the number, and the words are mistaken.
-    ensures { Works (Ends (λ _ run. run ≡ mistaken (not_text number)) [])
+    ensures { Works (EndsOverFiles (λ _ run. run ≡ mistaken (not_text number)) [])
         (D.state desk.old) (D.state desk.new) result }
 {
     report_word(desk, number)?;

@@ -4,6 +4,7 @@ pub mod LineFaults
 pub mod LineParts
 pub mod LineRows
 pub mod LineValues
+pub mod LinesAsked
 pub mod LinesLeft
 pub mod SectionParts
 pub mod SectionRows

@@ -33,7 +33,7 @@ abbrev pub AddsAt : (ℕ → Type 0) → List (ℕ × ℕ) → List (ℕ × ℕ)
 AddsAt Is old new = (place : ℕ) → Contains (places_of new) place → Contains (places_of old) place ⊎ Is place
 
 -- A hit of a type at this place is offered.
-pub record TakesOne (kind : ℕ) (old new : List (ℕ × ℕ)) : Type 0 where
+pub record TakesHit (kind : ℕ) (old new : List (ℕ × ℕ)) : Type 0 where
   -- At most one hit is added.
   pub few : length new ≤ length old + 1
   -- It is that hit.

@@ -10,6 +10,7 @@ pub mod Pairs
 pub mod Parents
 pub mod Compared
 pub mod Magic
+pub mod Asked
 pub mod MagicRows
 pub mod Walked
 pub mod Globs

@@ -1,9 +1,10 @@
 -- Worked rows of lines of magic on any bytes, which compute.
-use Rattle.std.specs.Prelude.{◌≡◌, refl, ℕ, true, false, List, [], ◌∷◌, ◌++◌, codes}
+use Rattle.std.specs.Prelude.{◌≡◌, refl, ℕ, ◌+◌, true, false, List, [], ◌∷◌, ◌++◌, codes}
 use Rattle.mime_base.specs.Cache.Bytes.{both_lie, card_bytes, cards, field}
 use Rattle.mime_base.specs.Magic.Holds.{equals_from}
 use Rattle.mime_base.specs.Magic.Masking.{window_equals}
 use Rattle.mime_base.specs.declared.magic.host.Host.TheVariants.{Little}
+use Rattle.mime_view.specs.Asked.{stated_bytes}
 use Rattle.mime_view.specs.Magic.{line_at}
 
 -- a chain of two lines with these bytes as values, which are wanted at the offset 0; each has one child, and the first's is the last
@@ -33,3 +34,15 @@ last_equals = refl
 last_lies : both_lie (chain 97 97) 65 0 1 ≡ true
 unfolding card_bytes
 last_lies = refl
+
+-- two lines, of which the first states two value bytes and the second three
+abbrev two_lines : List ℕ
+two_lines = cards (0 ∷ 1 ∷ 1 ∷ 2 ∷ 0 ∷ 0 ∷ 0 ∷ 0 ∷ []) ++ cards (0 ∷ 1 ∷ 1 ∷ 3 ∷ 0 ∷ 0 ∷ 0 ∷ 0 ∷ [])
+
+-- a line that was asked twice states its bytes twice
+states_each : stated_bytes two_lines (0 ∷ 32 ∷ 32 ∷ []) ≡ 2 + 3 + 3
+unfolding card_bytes field
+states_each = refl
+
+states_none : stated_bytes two_lines [] ≡ 0
+states_none = refl

@@ -3,7 +3,7 @@
 ghost use Rattle.std.specs.Prelude.{◌≡◌, ℕ, nat_le, List, [], ◌∷◌, ◌++◌, map, OnOk, IfErr};
 ghost use Rattle.std.specs.List.{list_all};
 ghost use Rattle.mime_base.specs.Kept.{best};
-ghost use Rattle.mime_view.specs.Gathered.{TakesOne};
+ghost use Rattle.mime_view.specs.Gathered.{TakesHit};
 
 use crate::fault::CacheFault;
 use smallvec::SmallVec;
@@ -60,7 +60,7 @@ impl BestHits {
         ensures kept { (offers : List (ℕ × ℕ)) → self.old ≡ best offers →
             OnOk result (self.new ≡ best (offers ++ (rank, kind) ∷ [])) }
         // At most one hit is added, and it is this one.
-        ensures takes { TakesOne kind self.old self.new }
+        ensures takes { TakesHit kind self.old self.new }
         // Only memory can be short.
         ensures fault { IfErr result (λ e. e ≡ CacheFault.OutOfMemory) }
     {

@@ -13,7 +13,8 @@ ghost use Rattle.mime_base.specs.Meter.{raised};
 ghost use Rattle.mime_base.specs.Magic.{PlainSection, are_allowed_sections};
 ghost use Rattle.mime_base.specs.declared.database.rule.GlobRule.{GlobRule};
 ghost use Rattle.mime_view.specs.Globs.{globs_listed};
-ghost use Rattle.mime_view.specs.Magic.{AnswersMagic, IsMagicFault, LiesMagic, NamesText, magic_price};
+ghost use Rattle.mime_view.specs.Asked.{AsksLines};
+ghost use Rattle.mime_view.specs.Magic.{AnswersMagic, IsMagicFault, IsMagicLine, LiesMagic, NamesText, magic_price};
 ghost use Rattle.mime_base.specs.Magic.Extent.{sections_extent};
 ghost use Rattle.mime_view.specs.Lists.{IsHeadFault, LiesHead};
 ghost use Rattle.mime_view.specs.NameHits.{AreHits, GivesHits, GivesTexts, IsHitsFault, LieLists, SpellsRules, lists_of};
@@ -42,7 +43,7 @@ use crate::query::Query;
 use crate::rule_hits::RuleHits;
 use crate::rules::{Listed, ListingSource, list_rules};
 use crate::spending::Spending;
-use mime_base::{Content, Counted, Host, LARGEST_CACHE, Meter};
+use mime_base::{Counted, Host, LARGEST_CACHE, Meter, NotedContent};
 use std::alloc::Global;
 use std::marker::Model;
 
@@ -384,10 +385,12 @@ impl<'a> Cache<'a> {
         ensures fault { IfErr result (IsMagicFault self.now (field self.now 0 6) content.now host budget.new) }
         // A record costs one node and one text, a value byte one comparison for each place of the content; one node comes besides.
         ensures cost { Pays (magic_price (length content.now)) 1 0 meter.old meter.new budget.old budget.new }
+        // It took just the value bytes stated by the lines that it asked.
+        ensures asked { AsksLines self.now (IsMagicLine self.now (field self.now 0 6)) budget.old budget.new }
     {
         let query = MagicQuery {
             counted: &self.counted,
-            content: Content::new(content),
+            content: NotedContent::new(content),
             host,
         };
         let mut spending = Spending {

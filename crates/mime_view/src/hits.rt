@@ -5,7 +5,7 @@ ghost use Rattle.mime_base.specs.Cache.Texts.{text_at};
 ghost use Rattle.mime_base.specs.Falling.{falling};
 ghost use Rattle.mime_base.specs.Kept.{best, rank_of_rule};
 ghost use Rattle.mime_base.specs.declared.database.rule.GlobRule.{GlobRule};
-ghost use Rattle.mime_view.specs.Gathered.{AreGiven, Offers, TakesOne, in_order, places_of, plain_hits, wants_rank};
+ghost use Rattle.mime_view.specs.Gathered.{AreGiven, Offers, TakesHit, in_order, places_of, plain_hits, wants_rank};
 ghost use Rattle.mime_view.specs.Hits.{CandidatesAreNear, takes_rule, IsVisit, KeptAreNear, extra_visits, visits};
 ghost use Rattle.mime_view.specs.RuleHits.{AreRulesAt, types_alone};
 ghost use Rattle.mime_view.specs.Spending.{Looks, Spends, per_record};
@@ -144,7 +144,7 @@ impl Hits {
         // What is asked for stays.
         ensures asked { self.new.which ≡ self.old.which }
         // At most one hit is added, and it is this one.
-        ensures takes { TakesOne kind self.old.offers self.new.offers }
+        ensures takes { TakesHit kind self.old.offers self.new.offers }
         // Only memory can be short.
         ensures fault { IfErr result (λ e. e ≡ CacheFault.OutOfMemory) }
     {

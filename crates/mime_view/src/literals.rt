@@ -13,7 +13,7 @@ ghost use Rattle.mime_base.specs.Format.Rules.{LiteralsAt};
 ghost use Rattle.mime_base.specs.Format.Stored.{stored_text, weight_and_flags};
 ghost use Rattle.mime_base.specs.declared.database.rule.GlobRule.{GlobRule};
 ghost use Rattle.mime_view.specs.Lists.{LiesList};
-ghost use Rattle.mime_view.specs.Gathered.{Offers, TakesOne};
+ghost use Rattle.mime_view.specs.Gathered.{Offers, TakesHit};
 ghost use Rattle.mime_view.specs.Hits.{takes_rule, literal_hits, literal_visits, visits};
 ghost use Rattle.mime_view.specs.Literals.{AreRun, IsLiteral, ReadsRule, ReadsRules, run_visits, taken};
 ghost use Rattle.mime_view.specs.Steps.{FindsAt, FindsRules, Searches, entries_part, entry_part, list_part, no_part};
@@ -155,7 +155,7 @@ fn offer_entry(
     // What is asked for stays.
     ensures asked { hits.new.which ≡ hits.old.which }
     // At most one hit is added, and it is this one.
-    ensures takes { TakesOne kind hits.old.offers hits.new.offers }
+    ensures takes { TakesHit kind hits.old.offers hits.new.offers }
     // Only memory can be short.
     ensures fault { IfErr result (λ e. e ≡ CacheFault.OutOfMemory) }
 {

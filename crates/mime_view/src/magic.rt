@@ -14,15 +14,16 @@
 
 ghost use Rattle.std.specs.Prelude.{◌≡◌, ℕ, ◌+◌, ◌-◌, ◌*◌, ◌^◌, ◌<◌, ◌≤◌, List, [], ◌∷◌, length, true, false, Ok, IfErr, IfOk, OnOk};
 ghost use Rattle.mime_base.specs.Magic.{PlainLine, PlainSection};
+ghost use Rattle.mime_view.specs.Asked.{AsksLines, IsLineAmong, IsLineBelow, IsSectionLine};
 ghost use Rattle.mime_view.specs.Magic.{AnswersLine, AnswersLineAt, AnswersLinesAt, AnswersMagicAt, AnswersSections, Ends, EqualsAt};
-ghost use Rattle.mime_view.specs.Magic.{IsBlockFault, IsLineFault, IsLinesFault, IsMagicFault, IsSectionFault, IsSeenFault};
+ghost use Rattle.mime_view.specs.Magic.{IsBlockFault, IsLineFault, IsLinesFault, IsMagicFault, IsMagicLine, IsSectionFault, IsSeenFault};
 ghost use Rattle.mime_view.specs.Magic.{LiesBlock, LiesMagic, NamesChildren, NamesText, ReadsLine, ReadsSection, line_price, magic_price};
 ghost use Rattle.mime_view.specs.Spending.{Spends};
 ghost use Rattle.mime_view.specs.Walked.{DiffersAt, WalksLine, WalksLines, WalksMagic, WalksOne};
 
 use crate::fault::CacheFault;
 use crate::spending::Spending;
-use mime_base::{Content, Counted, Host, StatedValue};
+use mime_base::{Counted, Host, NotedContent, StatedValue};
 
 /// The last level on which a line stands, counted from 0.
 const LAST_LEVEL: u32 = 63;
@@ -33,7 +34,7 @@ pub struct MagicQuery<'q, 'a> {
     /// The bytes of the cache.
     pub counted: &'q Counted<'a>,
     /// The content.
-    pub content: Content<'q>,
+    pub content: NotedContent<'q>,
     /// Its order of bytes is that of words.
     pub host: Host,
 }
@@ -57,6 +58,8 @@ pub fn sniff<'a>(
     // On any bytes: why there is no answer, and what the call costs.
     ensures ends { Ends (IsMagicFault query.now.counted.now at query.now.content query.now.host)
         (magic_price (length query.now.content)) 1 spending.old spending.new result }
+    // It took just the value bytes stated by the lines that it asked.
+    ensures asked { AsksLines query.now.counted.now (IsMagicLine query.now.counted.now at) spending.old.budget spending.new.budget }
 {
     let mut own = *spending;
     let result = sniff_sections(query, at, &mut own);
@@ -66,6 +69,7 @@ pub fn sniff<'a>(
 
 /// The same over a meter and a budget of the caller's own, which stay in registers from line to line.
 #[inline(always)]
+#[tactic(auto, using(crate::proofs::MagicLemmas::LinesAsked::asks_section))]
 fn sniff_sections<'a>(
     query: &MagicQuery<'_, 'a>,
     at: u32,
@@ -82,6 +86,8 @@ fn sniff_sections<'a>(
     // On any bytes: why there is no answer, and what the call costs.
     ensures ends { Ends (IsMagicFault query.now.counted.now at query.now.content query.now.host)
         (magic_price (length query.now.content)) 1 spending.old spending.new result }
+    // It took just the value bytes stated by the lines that it asked.
+    ensures asked { AsksLines query.now.counted.now (IsMagicLine query.now.counted.now at) spending.old.budget spending.new.budget }
 {
     let counted = query.counted;
     let [count, _, first] = counted.cards::<3>(u64::from(at), &mut spending.meter)?;
@@ -100,6 +106,7 @@ fn sniff_sections<'a>(
 /// The type and the priority of the section at `at`, if one of its lines holds.
 // Part of the loop over sections.
 #[inline(always)]
+#[tactic(auto, using(crate::proofs::MagicLemmas::LinesAsked::asks_of_section))]
 fn take_section<'a>(
     query: &MagicQuery<'_, 'a>,
     at: u64,
@@ -116,6 +123,8 @@ fn take_section<'a>(
     // On any bytes: why there is no answer, and what the step costs.
     ensures ends { Ends (IsSectionFault query.now.counted.now at query.now.content query.now.host)
         (magic_price (length query.now.content)) 0 spending.old spending.new result }
+    // It took just the value bytes stated by the lines that it asked.
+    ensures asked { AsksLines query.now.counted.now (IsSectionLine query.now.counted.now at) spending.old.budget spending.new.budget }
 {
     spending.budget.take_record()?;
     let counted = query.counted;
@@ -161,6 +170,7 @@ pub fn check_block(
 // Part of the loop over sections.
 #[cycle(sniffing)]
 #[inline(always)]
+#[tactic(auto, using(crate::proofs::MagicLemmas::LinesAsked::asks_next))]
 fn some_line_holds(
     query: &MagicQuery<'_, '_>,
     first: u32,
@@ -177,6 +187,9 @@ fn some_line_holds(
     // On any bytes: why there is no answer, and what the step costs.
     ensures ends { Ends (IsLinesFault query.now.counted.now first count level query.now.content query.now.host)
         (line_price query.now) 0 spending.old spending.new result }
+    // It took just the value bytes stated by the lines that it asked.
+    ensures asked { AsksLines query.now.counted.now (IsLineAmong query.now.counted.now first count level)
+        spending.old.budget spending.new.budget }
 {
     let start = u64::from(first);
     for i in 0..u64::from(count) {
@@ -191,6 +204,7 @@ fn some_line_holds(
 // The body of the loop over lines.
 #[cycle(sniffing)]
 #[inline(always)]
+#[tactic(auto, using(crate::proofs::MagicLemmas::LinesAsked::asks_own))]
 fn line_holds(
     query: &MagicQuery<'_, '_>,
     at: u64,
@@ -206,6 +220,8 @@ fn line_holds(
     // On any bytes: why there is no answer, and what the step costs.
     ensures ends { Ends (IsLineFault query.now.counted.now at level query.now.content query.now.host)
         (line_price query.now) 0 spending.old spending.new result }
+    // It took just the value bytes stated by the lines that it asked.
+    ensures asked { AsksLines query.now.counted.now (IsLineBelow query.now.counted.now at level) spending.old.budget spending.new.budget }
 {
     if differs_at_once(query, at, spending) {
         return Ok(false);
@@ -227,6 +243,8 @@ fn differs_at_once(query: &MagicQuery<'_, '_>, at: u64, spending: &mut Spending)
     ensures cost { result ≡ true → Spends (line_price query.now) 0 0 spending.old spending.new }
     // Of any other line nothing is taken.
     ensures untouched { result ≡ false → spending.new ≡ spending.old }
+    // The line that differs was asked.
+    ensures asked { result ≡ true → AsksLines query.now.counted.now (λ r. r ≡ at) spending.old.budget spending.new.budget }
 {
     let mut after = *spending;
     let Ok(()) = after.budget.take_record() else {
@@ -275,6 +293,8 @@ fn holds_apart(
     // On any bytes: why there is no answer, and what the step costs.
     ensures ends { Ends (IsLineFault query.now.counted.now at level query.now.content query.now.host)
         (line_price query.now) 0 spending.old spending.new result }
+    // It took just the value bytes stated by the lines that it asked.
+    ensures asked { AsksLines query.now.counted.now (IsLineBelow query.now.counted.now at level) spending.old.budget spending.new.budget }
 {
     let mut apart = *spending;
     let result = whole_line_holds(query, at, level, &mut apart);
@@ -285,6 +305,7 @@ fn holds_apart(
 /// The same: its value is compared, and its children are asked.
 #[cycle(sniffing)]
 #[inline(never)]
+#[tactic(auto, using(crate::proofs::MagicLemmas::LinesAsked::asks_own))]
 fn whole_line_holds(
     query: &MagicQuery<'_, '_>,
     at: u64,
@@ -300,6 +321,8 @@ fn whole_line_holds(
     // On any bytes: why there is no answer, and what the step costs.
     ensures ends { Ends (IsLineFault query.now.counted.now at level query.now.content query.now.host)
         (line_price query.now) 0 spending.old spending.new result }
+    // It took just the value bytes stated by the lines that it asked.
+    ensures asked { AsksLines query.now.counted.now (IsLineBelow query.now.counted.now at level) spending.old.budget spending.new.budget }
 {
     let Seen {
         equals,
@@ -348,6 +371,8 @@ fn see_line(
         AnswersLine query.now own spending.old spending.new result }
     // On any bytes: why there is no answer, and what the step costs.
     ensures ends { Ends (IsSeenFault query.now.counted.now at) (line_price query.now) 0 spending.old spending.new result }
+    // It took the value bytes that the line states if it asked it, else none.
+    ensures asked { AsksLines query.now.counted.now (λ r. r ≡ at) spending.old.budget spending.new.budget }
 {
     spending.budget.take_record()?;
     let counted = query.counted;
@@ -397,6 +422,9 @@ fn some_child_holds(
     // On any bytes: why there is no answer, and what the step costs.
     ensures ends { Ends (IsLinesFault query.now.counted.now first count level query.now.content query.now.host)
         (line_price query.now) 0 spending.old spending.new result }
+    // It took just the value bytes stated by the lines that it asked.
+    ensures asked { AsksLines query.now.counted.now (IsLineAmong query.now.counted.now first count level)
+        spending.old.budget spending.new.budget }
 {
     some_line_holds(query, first, count, level, spending)
 }

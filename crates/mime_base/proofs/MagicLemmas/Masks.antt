@@ -1,6 +1,6 @@
 -- Bytes under a mask, byte by byte.
 use Rattle.std.proofs.Common.{◌≡◌, ℕ, zero, suc, ◌<◌, List, [], ◌∷◌, length, get_or, bit_and, refl, ap, ◌∙◌, arith}
-use Rattle.mime_base.specs.Magic.Masking.{group_of, in_order, under_mask, mask_over, masked}
+use Rattle.mime_base.specs.Magic.Masking.{group_of, in_host_order, under_mask, mask_over, masked}
 use Rattle.mime_base.specs.Magic.Mirrored.{mirrored}
 use Rattle.mime_base.specs.declared.magic.host.Host.{Host}
 use Rattle.mime_base.proofs.MagicLemmas.Mirroring.{mirrors}
@@ -46,7 +46,7 @@ module _ (value mask : List ℕ) (word : ℕ) (host : Host) where
 
   -- a mask leaves the length
   pub length-under_mask : (bytes : List ℕ) → length (under_mask value mask word host bytes) ≡ length bytes
-  length-under_mask bytes = length-masked bytes (in_order word host (mask_over value mask))
+  length-under_mask bytes = length-masked bytes (in_host_order word host (mask_over value mask))
 
   -- and of each byte the bits that it has
   pub get_or-under_mask : (bytes : List ℕ) (i : ℕ) → length bytes ≡ length value → i < length value
@@ -56,8 +56,8 @@ module _ (value mask : List ℕ) (word : ℕ) (host : Host) where
       let size = length-mask_over value mask in
       let moves = mirrors word host over in
       let inside : i < length over = omega arith in
-      let here = get_or-masked bytes (in_order word host over) i (omega arith) (omega (arith, moves.size)) in
-      let there : get_or (in_order word host over) i 255 ≡ get_or over (place value word host i) 255 =
+      let here = get_or-masked bytes (in_host_order word host over) i (omega arith) (omega (arith, moves.size)) in
+      let there : get_or (in_host_order word host over) i 255 ≡ get_or over (place value word host i) 255 =
       moves.moved i 255 inside ∙ ap (λ (n : ℕ). get_or over (mirrored (group_of word host n) i) 255) size in
       let kept_bits = get_or-mask_over value mask (place value word host i) ((mirrors word host value).within i below) in
       here ∙ ap (bit_and (get_or bytes i 0)) (there ∙ kept_bits)

@@ -1,12 +1,12 @@
 -- The value of a line as its record in a cache states it, and the windows of its range.
-use Rattle.std.proofs.Common.{◌≡◌, ℕ, ◌+◌, ◌-◌, ◌<◌, ◌≤◌, ◌==◌, ◌&&◌, ◌||◌, Bool, true, false, true≢false}
+use Rattle.std.proofs.Common.{◌≡◌, ℕ, ◌+◌, ◌-◌, ◌<◌, ◌≤◌, ◌==◌, ◌&&◌, ◌||◌, Bool, true, false, cond, true≢false}
 use Rattle.std.proofs.Common.{List, [], length, drop, refl, sym, ap, ◌∙◌, arith, length-drop}
 use Rattle.std.specs.Prelude.{nat_le}
 use Rattle.std.proofs.lemmas.Bool.{eqb-true, leb-true}
 use Rattle.std.proofs.lemmas.List.{length-take-le}
 use Rattle.mime_base.specs.Cache.Bytes.{both_lie, lies, optional_mask, value_at}
 use Rattle.mime_base.specs.Magic.Holds.{equals_from}
-use Rattle.mime_base.specs.Magic.Ranges.{compared_from, stated_line}
+use Rattle.mime_base.specs.Magic.Ranges.{compared_from, compared_stated, stated_line}
 use Rattle.mime_base.specs.Magic.{PlainLine}
 use Rattle.mime_base.specs.declared.cache.stated_value.StatedValue.{StatedValue}
 use Rattle.mime_base.specs.declared.magic.host.Host.{Host}
@@ -72,3 +72,13 @@ module _ (c : List ℕ) (value : StatedValue) (start range : ℕ) (host : Host) 
         sym (equals_from-found own host content start (range - 1) range (omega arith) (omega arith) (sym equal)),
         omega (arith, found, size),
       )
+
+  -- nothing is compared of the value, where nothing would be if it lay there
+  pub compared_stated-none : (both_lie c value.at value.mask_at value.size ≡ true → compared_from own host content start range ≡ 0) →
+      compared_stated c value start range host content ≡ 0
+  compared_stated-none none = by_lying (both_lie c value.at value.mask_at value.size) refl
+    where
+      by_lying : (lie : Bool) → both_lie c value.at value.mask_at value.size ≡ lie →
+          cond lie (compared_from own host content start range) 0 ≡ 0
+      by_lying true e = none e
+      by_lying false e = refl

@@ -4,7 +4,7 @@ use Rattle.std.proofs.Common.{sym, arith, length-drop}
 use Rattle.std.proofs.lemmas.Bool.{eq-eqb, ne_eqb}
 use Rattle.std.proofs.lemmas.List.Sums.{common_prefix_len-drop_no, common_prefix_len-drop_yes, common_prefix_len-le}
 use Rattle.std.specs.List.{common_prefix_len}
-use Rattle.mime_base.specs.Magic.Masking.{equal_bytes, in_order, under_mask, window_equals}
+use Rattle.mime_base.specs.Magic.Masking.{equal_bytes, in_host_order, under_mask, window_equals}
 use Rattle.mime_base.specs.declared.magic.host.Host.{Host}
 use Rattle.mime_base.proofs.MagicLemmas.Masks.{bits, get_or-under_mask, length-under_mask, place}
 use Rattle.mime_base.proofs.MagicLemmas.Mirroring.{mirrors}
@@ -18,7 +18,7 @@ module _ (value mask : List ℕ) (word : ℕ) (host : Host) (window : List ℕ)
 
   -- the window under its mask
   abbrev pub right : List ℕ
-  right = under_mask value mask word host (in_order word host value)
+  right = under_mask value mask word host (in_host_order word host value)
 
   -- the value under its mask is as long as the window
   left_size : length left ≡ length window
@@ -27,7 +27,7 @@ module _ (value mask : List ℕ) (word : ℕ) (host : Host) (window : List ℕ)
   -- so is the window under its mask
   right_size : length right ≡ length window
   right_size =
-      length-under_mask value mask word host (in_order word host value) ∙ (mirrors word host value).size ∙ sym same
+      length-under_mask value mask word host (in_host_order word host value) ∙ (mirrors word host value).size ∙ sym same
 
   -- byte i of the window and byte p of the value, which stood there before the groups were reversed,
   -- and the bits k that the mask keeps of both
@@ -44,7 +44,7 @@ module _ (value mask : List ℕ) (word : ℕ) (host : Host) (window : List ℕ)
     right_byte : get_or right i 0 ≡ bit_and (get_or value p 0) k
     right_byte =
         let moves = mirrors word host value in
-        get_or-under_mask value mask word host (in_order word host value) i moves.size (omega arith)
+        get_or-under_mask value mask word host (in_host_order word host value) i moves.size (omega arith)
         ∙ ap (λ (b : ℕ). bit_and b (bits value mask word host i)) (moves.moved i 0 (omega arith))
         ∙ ap (λ (n : ℕ). bit_and (get_or value n 0) (bits value mask word host i)) (sym place_is)
         ∙ ap (bit_and (get_or value p 0)) (sym kept_bits)

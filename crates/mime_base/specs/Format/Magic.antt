@@ -32,8 +32,8 @@ LinesAt S at (line own children rest) =
     × S value own.value × MaskAt S mask own.mask × LinesAt S first children × LinesAt S (at + 32) rest
 
 -- four numbers: the priority, the offset of the type, how many lines there are, and the offset of the first
-abbrev pub IsSection : Standing → PlainSection → List ℕ → Type 0
-IsSection S section numbers =
+abbrev pub IsSectionRecord : Standing → PlainSection → List ℕ → Type 0
+IsSectionRecord S section numbers =
     (kind first : ℕ) × (numbers ≡ section.priority ∷ kind ∷ width section.lines ∷ first ∷ [])
     × TextAt S kind section.kind × LinesAt S first section.lines
 
@@ -41,4 +41,4 @@ IsSection S section numbers =
 pub record MagicAt (S : Standing) (at : ℕ) (sections : List PlainSection) : Type 0 where
   pub first : ℕ
   pub head : CardsAt S at (length sections ∷ sections_extent sections ∷ first ∷ [])
-  pub stand : RecordsAt S 16 (IsSection S) first sections
+  pub stand : RecordsAt S 16 (IsSectionRecord S) first sections

@@ -41,24 +41,24 @@ reversed_groups group bytes =
     else (if group == 4 then reversed_fours bytes else bytes)
 
 -- a value, or the mask over it, in the host's order
-abbrev pub in_order : ℕ → Host → List ℕ → List ℕ
-in_order word host bytes = reversed_groups (group_of word host (length bytes)) bytes
+abbrev pub in_host_order : ℕ → Host → List ℕ → List ℕ
+in_host_order word host bytes = reversed_groups (group_of word host (length bytes)) bytes
 
 -- bytes under the mask of a value, in the host's order
 abbrev pub under_mask : List ℕ → List ℕ → ℕ → Host → List ℕ → List ℕ
-under_mask value mask word host bytes = masked bytes (in_order word host (mask_over value mask))
+under_mask value mask word host bytes = masked bytes (in_host_order word host (mask_over value mask))
 
 -- whether a window under the mask equals the value under the mask, the value in the host's order
 unfoldable pub window_equals : List ℕ → List ℕ → ℕ → Host → List ℕ → Bool
 window_equals value mask word host window =
     bytes_eq (under_mask value mask word host window)
-    (under_mask value mask word host (in_order word host value))
+    (under_mask value mask word host (in_host_order word host value))
 
 -- how many bytes from the front are equal so
 unfoldable pub equal_bytes : List ℕ → List ℕ → ℕ → Host → List ℕ → ℕ
 equal_bytes value mask word host window =
     common_prefix_len nat_eq (under_mask value mask word host window)
-    (under_mask value mask word host (in_order word host value))
+    (under_mask value mask word host (in_host_order word host value))
 
 -- `ab` under DF DF equals `AB`, and not under FF
 capitals_masked : window_equals (codes "ab") (0xDF ∷ 0xDF ∷ []) 1 Little (codes "AB") ≡ true

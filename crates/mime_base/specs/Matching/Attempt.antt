@@ -1,13 +1,15 @@
 -- How the elements of a pattern go along a name from its front, one byte each, and what is left to decide then.
 use Rattle.std.specs.Prelude.{◌≡◌, ℕ, zero, suc, ◌+◌, ◌-◌, ◌<◌, ◌≤◌, Bool, true, false, not, ◌&&◌, nat_lt, if◌then◌else◌, Option, Some, None, List}
-use Rattle.std.specs.Prelude.{[], ◌∷◌, length, min, IsTrue}
+use Rattle.std.specs.Prelude.{[], ◌∷◌, length, drop, min, IsTrue}
 use Rattle.mime_base.specs.Matching.Elements.{Element, any_bytes, one, admits, elements, singles, is_special, HasNoEnd}
 use Rattle.mime_base.specs.Matching.Count.{tests_of}
 use Rattle.mime_base.specs.Matching.Matches.{matches}
 use Rattle.mime_base.specs.Matching.Folding.{agrees, compared}
+use Rattle.mime_base.specs.Meter.{raised}
 use Rattle.mime_base.specs.declared.matching.attempt.Step.{Step}
 use Rattle.mime_base.specs.declared.matching.attempt.Step.TheVariants.{Passes, Halts}
 use Rattle.mime_base.specs.declared.matching.attempt.Halt.{Halt}
+use Rattle.mime_base.specs.declared.matching.attempt.Reach.{Reach}
 use Rattle.mime_base.specs.declared.matching.attempt.Halt.TheVariants.{BothEnd, PatternEnds, NameEnds, Star, Refused}
 
 -- the first element is one that takes a byte
@@ -87,6 +89,15 @@ Goes halt (suc k) (one element ∷ elements) (b ∷ name) after =
     IsTrue (admits element b) × Goes halt k elements name after
 Goes halt (suc k) _ _ after = ⊥
 
+-- What elements leave where they halt is a part of the pattern and of the name.
+pub record LeavesPart (endless : ℕ) (pattern name : List ℕ) (reach : Reach) : Type 0 where
+  -- They took no more bytes than the name has.
+  pub passed : reach.passed ≤ length name
+  -- At a `*` what stands after it is shorter than the pattern.
+  pub shorter : reach.halt ≡ Star → length reach.after.now < length pattern
+  -- None of its last `endless` bytes is a `]`.
+  pub no_end : HasNoEnd endless reach.after.now
+
 -- whether the name matches, where that is decided
 abbrev pub answer : Halt → Option Bool
 answer BothEnd = Some true
@@ -118,3 +129,14 @@ owed PatternEnds elements after = min 1 (singles elements)
 owed NameEnds elements after = min 1 (singles elements)
 owed Star elements after = singles elements - singles after
 owed Refused elements after = min 1 (singles elements)
+
+-- After a `*` elements are tried at the places of a name until they halt, and what they leave decides the whole.
+pub record SlidesTo (cased : Bool) (pattern name : List ℕ) (reach : Reach) : Type 0 where
+  -- The whole matches where what is left does.
+  pub decides : matches (any_bytes ∷ elements (compared cased pattern)) (compared cased name)
+      ≡ decided reach.halt (elements (compared cased reach.after.now)) (compared cased (drop reach.passed name))
+  -- Its tests are those that were made, and those of what is left.
+  pub tests : raised 0 (tests_of (any_bytes ∷ elements (compared cased pattern)) (compared cased name))
+      ≡ raised reach.tests (tests_after reach.halt (elements (compared cased reach.after.now)) (compared cased (drop reach.passed name)))
+  -- The elements that are done with took theirs.
+  pub least : owed reach.halt (elements (compared cased pattern)) (elements (compared cased reach.after.now)) ≤ reach.tests

@@ -7,7 +7,7 @@
 ghost use Rattle.std.specs.Prelude.{◌≡◌, ◌⊎◌, ◌+◌, ◌<◌, ◌≤◌, length, take, IfNone, IfSome, Ok};
 ghost use Rattle.std.specs.Ordering.{nat_cmp};
 ghost use Rattle.std.specs.Cmp.Lexicographic.{slice_cmp};
-ghost use Rattle.mime_base.specs.Meter.{raised};
+ghost use Rattle.mime_base.specs.Meter.{CountsBytes};
 ghost use Rattle.mime_base.specs.Cache.Texts.{before_zero, shared};
 
 use crate::cache::byte_fault::ByteFault;
@@ -106,12 +106,8 @@ impl<'k> Key<'k> {
         requires early { place < 16 }
         // The answer is the order of the text against the key.
         ensures order { result ≡ Ok (slice_cmp nat_cmp (before_zero (take 256 rest.now)) self.now) }
-        // No record is counted.
-        ensures nodes { meter.new.nodes ≡ meter.old.nodes }
         // It counts the bytes that agree, and the one that stops them.
-        ensures bytes { meter.new.bytes ≡ raised meter.old.bytes (place + 1) }
-        // The count of bytes never falls, since it stops at the greatest number.
-        ensures rises { meter.old.bytes ≤ meter.new.bytes }
+        ensures counts { CountsBytes (place + 1) meter.old meter.new }
     {
         let (byte, other) = (rest[place], self.front[place]);
         if byte == other {

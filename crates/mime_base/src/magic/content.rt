@@ -13,14 +13,14 @@ const FRONT: usize = 288;
 
 /// A content, with the places at which its bytes first stand near its front. This project's own.
 #[derive(Drop)]
-pub struct Content<'c> {
+pub struct NotedContent<'c> {
     /// All of its bytes.
     bytes: &'c [u8],
     /// Of each byte a place before which it doesn't stand in the front.
     noted: [u16; 256],
 }
 
-impl<'c> Model for Content<'c> {
+impl<'c> Model for NotedContent<'c> {
     ghost use Rattle.std.specs.Prelude.{ℕ, ◌<◌, List, slice_index};
     ghost use Rattle.mime_base.specs.Magic.Places.{NotesFrom};
 
@@ -31,9 +31,9 @@ impl<'c> Model for Content<'c> {
     ghost invariant = { λ content. NotesFrom 0 content.noted content.bytes.now × ((place : ℕ) → slice_index content.bytes.now place < 256) };
 }
 
-impl<'c> Content<'c> {
+impl<'c> NotedContent<'c> {
     /// The content of these bytes.
-    pub fn new(bytes: &'c [u8]) -> Content<'c>
+    pub fn new(bytes: &'c [u8]) -> NotedContent<'c>
         // It has just these bytes.
         ensures { result ≡ bytes.now }
     {
@@ -43,7 +43,7 @@ impl<'c> Content<'c> {
             place -= 1;
             noted[usize::from(bytes[place])] = place as u16;
         }
-        Content { bytes, noted }
+        NotedContent { bytes, noted }
     }
 
     /// All of its bytes.

@@ -4,10 +4,10 @@ ghost use Rattle.std.specs.Prelude.{◌≡◌, ℕ, ◌+◌, ◌-◌, ◌^◌, �
 ghost use Rattle.mime_base.specs.Magic.Holds.{equals_from};
 ghost use Rattle.mime_base.specs.Magic.{line_from};
 ghost use Rattle.mime_base.specs.Magic.Masking.{equal_bytes, group_of, window_equals};
-ghost use Rattle.mime_base.specs.Magic.Ranges.{compared_from};
-ghost use Rattle.mime_base.specs.Meter.{raised};
+ghost use Rattle.mime_base.specs.Magic.Ranges.{PassesWindows, compared_from};
+ghost use Rattle.mime_base.specs.Meter.{CountsBytes};
 
-use crate::magic::content::Content;
+use crate::magic::content::NotedContent;
 use crate::magic::host::Host;
 use crate::magic::masking::{equal_bytes, group_of};
 use crate::magic::pairs::{Passed, pass_pairs};
@@ -33,13 +33,9 @@ pub fn value_in_range(
     // It says whether some window of the range lies in the content and equals the value.
     ensures equal { result ≡ equals_from (line_from start range word value.now (Some mask.now))
         host content.now start range }
-    // No record is counted.
-    ensures nodes { meter.new.nodes ≡ meter.old.nodes }
     // For each window tried it counts the bytes compared, including the first mismatch.
-    ensures bytes { meter.new.bytes ≡ raised meter.old.bytes
-        (compared_from (line_from start range word value.now (Some mask.now)) host content.now start range) }
-    // The count of bytes never falls, since it stops at the greatest number.
-    ensures rises { meter.old.bytes ≤ meter.new.bytes }
+    ensures counts { CountsBytes (compared_from (line_from start range word value.now (Some mask.now)) host content.now start range)
+        meter.old meter.new }
 {
     if content.len() < value.len() || content.len() - value.len() < start {
         return false;
@@ -74,7 +70,12 @@ pub fn first_byte_differs(value: &[u8], mask: &[u8], word: u32, content: &[u8], 
 ///
 /// Most lines are refused so. Each byte is a number of its own.
 #[inline(always)]
-pub fn windows_differing(value: &[u8], content: &Content<'_>, start: usize, range: usize) -> usize
+pub fn windows_differing(
+    value: &[u8],
+    content: &NotedContent<'_>,
+    start: usize,
+    range: usize,
+) -> usize
     // The first window lies in the content.
     requires inside { start + length value.now ≤ length content.now }
     // There is a first byte.
@@ -118,9 +119,8 @@ fn value_in_windows(
     requires inside { end + length value.now ≤ length content.now + 1 }
     ensures equal { result ≡ equals_from (line_from 0 0 word value.now (Some mask.now))
         host content.now start (end - start) }
-    ensures nodes { meter.new.nodes ≡ meter.old.nodes }
-    ensures bytes { meter.new.bytes ≡ raised meter.old.bytes
-        (compared_from (line_from 0 0 word value.now (Some mask.now)) host content.now start (end - start)) }
+    ensures counts { CountsBytes (compared_from (line_from 0 0 word value.now (Some mask.now)) host content.now start (end - start))
+        meter.old meter.new }
 {
     let mut start = start;
     while start < end {
@@ -137,8 +137,8 @@ fn value_in_windows(
     false
 }
 
-/// The next offset up to `end` whose window may equal the value. It adds the bytes compared in each window before it: one, or
-/// two where the first byte is the value's.
+/// The next offset up to `end` whose window may equal the value. Of each window before it one byte is compared, or two where the
+/// first is the value's.
 #[inline(always)]
 fn next_window(
     value: &[u8],
@@ -152,16 +152,7 @@ fn next_window(
 ) -> usize
     requires order { at ≤ end }
     requires inside { end + length value.now ≤ length content.now + 1 }
-    ensures low { at ≤ result }
-    ensures high { result ≤ end }
-    ensures equal { equals_from (line_from 0 0 word value.now (Some mask.now)) host content.now at (end - at)
-        ≡ equals_from (line_from 0 0 word value.now (Some mask.now)) host content.now result (end - result) }
-    ensures nodes { meter.new.nodes ≡ meter.old.nodes }
-    ensures bytes { raised meter.old.bytes
-        (compared_from (line_from 0 0 word value.now (Some mask.now)) host content.now at (end - at))
-        ≡ raised meter.new.bytes
-        (compared_from (line_from 0 0 word value.now (Some mask.now)) host content.now result (end - result)) }
-    ensures most { meter.new.bytes < 2 ^ 64 }
+    ensures { PassesWindows (line_from 0 0 word value.now (Some mask.now)) host content.now at result end meter.old meter.new }
 {
     if end - at <= 1 || !mask.is_empty() || value.is_empty() {
         return at;
@@ -211,9 +202,7 @@ fn value_is(
 ) -> bool
     requires { length window.now ≡ length value.now }
     ensures equal { result ≡ window_equals value.now mask.now word host window.now }
-    ensures nodes { meter.new.nodes ≡ meter.old.nodes }
-    ensures bytes { meter.new.bytes ≡ raised meter.old.bytes
-        (min (equal_bytes value.now mask.now word host window.now + 1) (length value.now)) }
+    ensures counts { CountsBytes (min (equal_bytes value.now mask.now word host window.now + 1) (length value.now)) meter.old meter.new }
 {
     let equal = equal_bytes(value, mask, word, host, window);
     meter.add_bytes((equal as u64).saturating_add(1).min(value.len() as u64));

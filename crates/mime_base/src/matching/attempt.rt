@@ -1,7 +1,7 @@
 //! How elements go along a name from its front, one byte each.
 
 ghost use Rattle.std.specs.Prelude.{◌≡◌, [], ◌+◌, ◌<◌, ◌≤◌, length, IsTrue};
-ghost use Rattle.mime_base.specs.Matching.Attempt.{answer, goes_on_otherwise, Goes, IsShorter, IsStep, last_tests, LeavesNoEnd};
+ghost use Rattle.mime_base.specs.Matching.Attempt.{answer, goes_on_otherwise, Goes, IsShorter, IsStep, last_tests, LeavesNoEnd, LeavesPart};
 ghost use Rattle.mime_base.specs.Matching.Elements.{elements, HasNoEnd};
 ghost use Rattle.mime_base.specs.Matching.Folding.{compared};
 
@@ -69,16 +69,14 @@ pub fn attempt<'a>(pattern: &'a [u8], endless: usize, cased: bool, name: &[u8]) 
     // The elements that took a byte, and why the next one didn't.
     ensures goes { Goes result.halt result.passed (elements (compared cased pattern.now))
         (compared cased name.now) (elements (compared cased result.after.now)) }
-    // Each of them took a byte of the name.
-    ensures passed { result.passed ≤ length name.now }
+    // What they leave is a part of the pattern and of the name.
+    ensures part { LeavesPart endless pattern.now name.now result }
     // There is a test for each, and one more where an element refused a byte or found the name's end.
     ensures tests { result.tests ≡ result.passed + last_tests result.halt }
     // There are no more tests than the pattern has bytes.
     ensures most { result.tests ≤ length pattern.now }
     // At a star the tests are fewer than the bytes of the pattern that are done with.
     ensures star { result.halt ≡ Halt.Star → result.tests + length result.after.now < length pattern.now }
-    // None of the last `endless` bytes of the rest is a `]`.
-    ensures endless { HasNoEnd endless result.after.now }
 {
     let mut pattern = pattern;
     let mut name = name;

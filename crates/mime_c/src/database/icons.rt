@@ -74,7 +74,7 @@ fn find(
         (record { icon = icon.old; generic = generic.old; lengths = lengths.old })
         (record { icon = icon.new; generic = generic.new; lengths = lengths.new }) result }
 {
-    match icon_again(alloc, opened.cache(), kind) {
+    match icon_again(alloc, opened.indexed(), kind) {
         Ok(icons) => put_icons(&icons, icon, generic, lengths),
         Err(stopped) => stop_report(stopped),
     }

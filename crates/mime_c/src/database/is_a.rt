@@ -54,7 +54,7 @@ fn search(alloc: Global, opened: &OpenDatabase, kind: &[u8], base: &[u8], is: &m
     requires base { is_type_name base.now ≡ true }
     ensures { IsSearched opened.now kind.now base.now is.old is.new result }
 {
-    match is_a_again(alloc, opened.cache(), kind, base) {
+    match is_a_again(alloc, opened.indexed(), kind, base) {
         Ok((found, meter)) => {
             *is = found;
             answered(0, meter)

@@ -3,7 +3,7 @@
 ghost use Rattle.std.specs.Prelude.{◌≡◌, ◌≢◌, IfErr};
 ghost use Rattle.mime_c.specs.Handle.{IsByHandle, StaysOpen};
 ghost use Rattle.mime_c.specs.LookUp.{IsLookUp, IsLookedUp, IsTypedByContent, IsTypedByName, available_content};
-ghost use Rattle.mime_c.specs.Order.{order_of};
+ghost use Rattle.mime_c.specs.Order.{numbered_order};
 ghost use Rattle.mime_lookup.specs.NameAlone.{IsNameLookUp};
 
 use crate::database::handle::Handle;
@@ -30,7 +30,7 @@ pub extern "C" fn database_look_up_with(
 ) -> HandleReport
     // It is what is given over the bytes; where nothing is open, the answer stays.
     ensures promises { IsByHandle database.cache (λ cache told. IsLookedUp cache name.now (available_content has_content content.now)
-        (order_of order) answer.old answer.new told) (answer.new ≡ answer.old) result.report }
+        (numbered_order order) answer.old answer.new told) (answer.new ≡ answer.old) result.report }
     // What is open stays so, where it lies.
     ensures stays { StaysOpen database.address database.cache result.kept }
 {
@@ -62,7 +62,7 @@ fn ask(
     answer: &mut TypeAnswer<'static>,
 ) -> Report
     ensures same { opened.new ≡ opened.old }
-    ensures promises { IsLookedUp opened.old name.now (available_content has_content content.now) (order_of order) answer.old answer.new result }
+    ensures promises { IsLookedUp opened.old name.now (available_content has_content content.now) (numbered_order order) answer.old answer.new result }
 {
     let Some(order) = order_of(order) else {
         return status_report(UNKNOWN_ORDER, 0, Meter::new());

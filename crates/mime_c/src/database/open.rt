@@ -2,7 +2,7 @@
 
 ghost use Rattle.std.specs.Prelude.{◌≡◌, ◌+◌, ◌≤◌, MatchResult, None};
 ghost use denote.RawPtr.{null_ptr};
-ghost use Rattle.mime_c.specs.Open.{IsOpened, IsRefused};
+ghost use Rattle.mime_c.specs.Open.{IsOpened, IsUnopened};
 ghost use Rattle.mime_view.specs.Opening.{Opens};
 
 use crate::database::heap_value::HeapValue;
@@ -62,7 +62,7 @@ fn open(
     meter: &mut Meter,
 ) -> Result<HeapValue<OpenDatabase, Global>, CacheFault>
     ensures opened { MatchResult result
-        (λ opened. (opened.value ≡ cache.entry.now) × Opens cache.entry.now) (IsRefused cache.entry.now) }
+        (λ opened. (opened.value ≡ cache.entry.now) × Opens cache.entry.now) (IsUnopened cache.entry.now) }
     ensures nodes { meter.new.nodes ≤ meter.old.nodes + 1 }
     ensures bytes { meter.new.bytes ≡ meter.old.bytes }
 {

@@ -2,7 +2,7 @@
 
 use mime_base::Database;
 use mime_text::{DirFiles, merge, read_globs2, read_icons, read_magic, read_pairs};
-pub use mime_tool::DirBytes as Texts;
+pub use mime_tool::DirTexts as Texts;
 use std::alloc::Global;
 use std::test::Fail;
 

@@ -8,10 +8,11 @@ use crate::tests::sample::{SAMPLE, SAMPLE_TEXTS, changed, damaged, write_at};
 use crate::tests::texts::{EMPTY, Texts, merged};
 use mime_base::{Counted, Meter, TypeName};
 use mime_lookup::{
-    Cause, Icons, IndexedDatabase, icon_again, icon_of, is_a, is_a_again, is_a_indexed,
+    Cause, Icons, IndexedCache, IndexedDatabase, icon_again, icon_of, is_a, is_a_again,
+    is_a_indexed,
 };
 use mime_store::write_cache;
-use mime_view::{Cache, CacheFault};
+use mime_view::CacheFault;
 use std::alloc::Global;
 use std::test::Fail;
 
@@ -267,9 +268,9 @@ fn counts_of(
 
 /// The same by the sample, opened once: what is answered too.
 fn told_again(alloc: Global) -> Result<(bool, bool, ((u64, u64), (u64, u64))), Fail> {
-    let cache = Cache::open(Counted::new(&SAMPLE), &mut Meter::new())?;
-    let (is, searched) = is_a_again(alloc, &cache, b"t/h", b"t/m")?;
-    let icons = icon_again(alloc, &cache, b"t/h")?;
+    let indexed = IndexedCache::open(Counted::new(&SAMPLE), &mut Meter::new())?;
+    let (is, searched) = is_a_again(alloc, &indexed, b"t/h", b"t/m")?;
+    let icons = icon_again(alloc, &indexed, b"t/h")?;
     let found = icons.meter;
     let counted = ((searched.nodes, searched.bytes), (found.nodes, found.bytes));
     Ok((is, are_icons(&icons, &OF_THE_SAMPLE[0]), counted))

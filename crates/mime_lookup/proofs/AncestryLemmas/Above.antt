@@ -6,7 +6,7 @@ use Rattle.std.proofs.lemmas.Slice.Eq.{bytes_eq-Decides}
 use Rattle.mime_base.specs.Database.PlainPairs.{plain_pairs}
 use Rattle.mime_base.specs.Database.Subclass.{IsA, IsPath, Pairs, above, is_by_itself, parents}
 use Rattle.mime_base.specs.declared.database.pair.Pair.{Pair}
-use Rattle.mime_lookup.specs.Places.{IsIndexed, IsNext}
+use Rattle.mime_lookup.specs.Places.{IsIndexed, IsNextPlace}
 use Rattle.mime_lookup.proofs.AncestryLemmas.PairSteps.{parents-here}
 use Rattle.mime_lookup.proofs.AncestryLemmas.Places.{parents-low}
 use Rattle.mime_lookup.proofs.AncestryLemmas.Searches.{Contains-head, Contains-nil, Contains-only}
@@ -18,11 +18,11 @@ none_of (Some at) is = absurd (true≢false is)
 
 -- where no place comes after a type's first one, what stands there is its one parent
 pub parents-only : (pairs : List Pair) (kind : List ℕ) (place k : ℕ) (pair : Pair) (first : List ℕ → Option ℕ) (next : List (Option ℕ)) →
-    IsIndexed pairs 0 first next → IsNext pairs kind 0 (Some place) → k + (place + 1) ≡ length pairs → get_or next k None ≡ None →
+    IsIndexed pairs 0 first next → IsNextPlace pairs kind 0 (Some place) → k + (place + 1) ≡ length pairs → get_or next k None ≡ None →
     pair ≡ get_or pairs place pair → parents (plain_pairs pairs) kind ≡ pair.target ∷ []
 parents-only pairs kind place k pair first next indexed here size last is =
     let name : pair.name ≡ kind = here.3 pair is in
-    let none = subst (IsNext pairs pair.name (place + 1)) last (indexed.nexts place k pair (omega arith) size is) in
+    let none = subst (IsNextPlace pairs pair.name (place + 1)) last (indexed.nexts place k pair (omega arith) size is) in
     here.2 ∙ parents-low pairs place pair here.1 is kind
     ∙ parents-here pair.name pair.target kind _ ((bytes_eq-Decides pair.name kind).1 name)
     ∙ ap (λ ps. pair.target ∷ ps) (ap (λ n. parents (plain_pairs (drop (place + 1) pairs)) n) (sym name) ∙ none)

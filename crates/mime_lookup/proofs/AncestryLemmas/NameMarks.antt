@@ -5,7 +5,7 @@ use Rattle.std.proofs.lemmas.Bool.{cases_eq}
 use Rattle.std.proofs.lemmas.List.{drop_all, get_or-set_other, get_or-set_same, length-set}
 use Rattle.mime_base.specs.declared.database.pair.Pair.{Pair}
 use Rattle.mime_lookup.specs.Marks.{AreMarked, HaveMarks, mark}
-use Rattle.mime_lookup.specs.Places.{IsNext}
+use Rattle.mime_lookup.specs.Places.{IsNextPlace}
 use Rattle.mime_lookup.proofs.AncestryLemmas.PairSteps.{items_from}
 use Rattle.mime_lookup.proofs.AncestryLemmas.Walks.{item_at}
 
@@ -18,7 +18,7 @@ marked-at marks (first ∷ rest) (suc place) pair have within is = marked-at mar
 
 -- a name that has no mark has no place
 pub no-place-unmarked : (marks : List Bool) (pairs : List Pair) (name : List ℕ) → AreMarked pairs 0 marks →
-    get_or marks (mark name) false ≡ false → (place : Option ℕ) → IsNext pairs name 0 place → place ≡ None
+    get_or marks (mark name) false ≡ false → (place : Option ℕ) → IsNextPlace pairs name 0 place → place ≡ None
 no-place-unmarked marks pairs name marked none None next = refl
 no-place-unmarked marks pairs name marked none (Some place) next =
     let pair = item_at pairs place next.1 in

@@ -9,7 +9,7 @@ use Rattle.std.proofs.Math.Seq.{get_or-append_seam}
 use Rattle.mime_base.specs.Database.PlainPairs.{plain_pairs}
 use Rattle.mime_base.specs.Database.Subclass.{parents}
 use Rattle.mime_base.specs.declared.database.pair.Pair.{Pair}
-use Rattle.mime_lookup.specs.Places.{IsIndexed, IsNext}
+use Rattle.mime_lookup.specs.Places.{IsIndexed, IsNextPlace}
 use Rattle.mime_lookup.proofs.AncestryLemmas.PairSteps.{items_from, parents-nil, parents-past}
 
 -- the same item, whatever the default
@@ -24,7 +24,7 @@ module _ (pairs : List Pair) where
   indexed-none low first all none = record {
     size = omega (arith, all);
     firsts = λ name.
-        subst (IsNext pairs name low) (sym (none name))
+        subst (IsNextPlace pairs name low) (sym (none name))
         (ap (λ ps. parents (plain_pairs ps) name) (drop_all low pairs (omega (arith, all))) ∙ parents-nil name);
     nexts = λ place k pair above size is. absurd (omega (arith, all, above, size));
   }
@@ -36,8 +36,8 @@ module _ (pairs : List Pair) where
     parents-low name = ap (λ ps. parents (plain_pairs ps) name) (items_from pairs low pair within is)
 
     -- the pair there has another name
-    next-past : (name : List ℕ) (place : Option ℕ) → bytes_eq pair.name name ≡ false → IsNext pairs name (low + 1) place →
-        IsNext pairs name low place
+    next-past : (name : List ℕ) (place : Option ℕ) → bytes_eq pair.name name ≡ false → IsNextPlace pairs name (low + 1) place →
+        IsNextPlace pairs name low place
     next-past name None miss next = parents-low name ∙ parents-past pair.name pair.target name _ miss ∙ next
     next-past name (Some place) miss next = (
       omega (arith, next.0),
@@ -47,7 +47,7 @@ module _ (pairs : List Pair) where
     )
 
     -- the pair there is the first of its name
-    next-here : (name : List ℕ) → bytes_eq pair.name name ≡ true → IsNext pairs name low (Some low)
+    next-here : (name : List ℕ) → bytes_eq pair.name name ≡ true → IsNextPlace pairs name low (Some low)
     next-here name hit = (
       omega arith,
       within,
@@ -65,22 +65,22 @@ module _ (pairs : List Pair) where
       nexts = nexts_now;
     }
       where
-        firsts_now : (name : List ℕ) → IsNext pairs name low (later name)
+        firsts_now : (name : List ℕ) → IsNextPlace pairs name low (later name)
         firsts_now name =
             ⊎_elim
-            (λ hit. subst (IsNext pairs name low) (sym (updates name ∙ cond-true (bytes_eq pair.name name) (Some low) (first name) hit))
+            (λ hit. subst (IsNextPlace pairs name low) (sym (updates name ∙ cond-true (bytes_eq pair.name name) (Some low) (first name) hit))
             (next-here name hit))
-            (λ miss. subst (IsNext pairs name low) (sym (updates name ∙ cond-false (bytes_eq pair.name name) (Some low) (first name) miss))
+            (λ miss. subst (IsNextPlace pairs name low) (sym (updates name ∙ cond-false (bytes_eq pair.name name) (Some low) (first name) miss))
             (next-past name (first name) miss (so_far.firsts name)))
             (cases_Bool (bytes_eq pair.name name))
 
         nexts_now : (place k : ℕ) (other : Pair) → low ≤ place → k + (place + 1) ≡ length pairs → other ≡ get_or pairs place other →
-            IsNext pairs other.name (place + 1) (get_or (next ++ old ∷ []) k None)
+            IsNextPlace pairs other.name (place + 1) (get_or (next ++ old ∷ []) k None)
         nexts_now place k other above size also =
             ⊎_elim
             (λ past.
             let inside : k < length next = omega (arith, so_far.size, past, size) in
-            subst (IsNext pairs other.name (place + 1)) (sym (get_or_append_left next (old ∷ []) None k inside))
+            subst (IsNextPlace pairs other.name (place + 1)) (sym (get_or_append_left next (old ∷ []) None k inside))
             (so_far.nexts place k other (omega (arith, past)) size also))
             (λ here.
             let there : low ≡ place = omega (arith, above, here) in
@@ -90,7 +90,7 @@ module _ (pairs : List Pair) where
             (same_item pairs low pair other within is (subst (λ n. other ≡ get_or pairs n other) (sym there) also)) in
             let value : first pair.name ≡ get_or (next ++ old ∷ []) k None =
             sym was ∙ sym (get_or-append_seam next old [] None) ∙ ap (λ n. get_or (next ++ old ∷ []) n None) last in
-            subst (λ n. IsNext pairs other.name (n + 1) (get_or (next ++ old ∷ []) k None)) there
-            (subst (λ n. IsNext pairs n (low + 1) (get_or (next ++ old ∷ []) k None)) same
-            (subst (IsNext pairs pair.name (low + 1)) value (so_far.firsts pair.name))))
+            subst (λ n. IsNextPlace pairs other.name (n + 1) (get_or (next ++ old ∷ []) k None)) there
+            (subst (λ n. IsNextPlace pairs n (low + 1) (get_or (next ++ old ∷ []) k None)) same
+            (subst (IsNextPlace pairs pair.name (low + 1)) value (so_far.firsts pair.name))))
             (cases_lt low place)

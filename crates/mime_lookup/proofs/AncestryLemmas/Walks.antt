@@ -7,7 +7,7 @@ use Rattle.std.proofs.lemmas.Slice.Eq.{bytes_eq-Decides}
 use Rattle.mime_base.specs.Database.PlainPairs.{plain_pairs}
 use Rattle.mime_base.specs.Database.Subclass.{parents, resolved}
 use Rattle.mime_base.specs.declared.database.pair.Pair.{Pair}
-use Rattle.mime_lookup.specs.Places.{IsIndexed, IsNext}
+use Rattle.mime_lookup.specs.Places.{IsIndexed, IsNextPlace}
 use Rattle.mime_lookup.proofs.AncestryLemmas.Places.{parents-low}
 use Rattle.mime_lookup.proofs.AncestryLemmas.PairSteps.{parents-here, parents-nil, parents-past, pushed}
 use Rattle.mime_lookup.proofs.AncestryLemmas.PairSteps.{resolved-here, resolved-past, resolved-nil}
@@ -48,14 +48,14 @@ item_at (pair ∷ pairs) place within =
     (item, get_or_default (pair ∷ pairs) place pair item within)
 
 -- a name is resolved at the first place that it has
-pub resolved-at : (pairs : List Pair) (kind : List ℕ) (place : ℕ) (pair : Pair) → IsNext pairs kind 0 (Some place) →
+pub resolved-at : (pairs : List Pair) (kind : List ℕ) (place : ℕ) (pair : Pair) → IsNextPlace pairs kind 0 (Some place) →
     pair ≡ get_or pairs place pair → resolved (plain_pairs pairs) kind ≡ pair.target
 resolved-at pairs kind place pair next is =
     resolved-first (plain_pairs pairs) (plain_pairs (drop (place + 1) pairs)) pair.name pair.target kind
     ((bytes_eq-Decides pair.name kind).1 (next.3 pair is)) (next.2 ∙ parents-low pairs place pair next.1 is kind)
 
 -- what the next pair of a name leads to is what the name stands for
-pub resolved-to : (pairs : List Pair) (kind : List ℕ) (place : ℕ) (target : List ℕ) → IsNext pairs kind 0 (Some place) →
+pub resolved-to : (pairs : List Pair) (kind : List ℕ) (place : ℕ) (target : List ℕ) → IsNextPlace pairs kind 0 (Some place) →
     ((pair : Pair) → pair ≡ get_or pairs place pair → target ≡ pair.target) → target ≡ resolved (plain_pairs pairs) kind
 resolved-to pairs kind place target next says =
     let pair = item_at pairs place next.1 in
@@ -65,13 +65,13 @@ resolved-to pairs kind place target next says =
 pub record Walked (pairs : List Pair) (step : List ℕ → List ℕ) (kind : List ℕ) (place : Option ℕ) (queue before : List (List ℕ))
     : Type 0 where
   pub low : ℕ
-  pub next : IsNext pairs kind low place
+  pub next : IsNextPlace pairs kind low place
   pub grown :
       queue ++ map step (parents (plain_pairs (drop low pairs)) kind) ≡ before ++ map step (parents (plain_pairs pairs) kind)
 
 module _ (pairs : List Pair) (step : List ℕ → List ℕ) (kind : List ℕ) (before : List (List ℕ)) where
   -- at first
-  pub walked-first : (place : Option ℕ) → IsNext pairs kind 0 place → Walked pairs step kind place before before
+  pub walked-first : (place : Option ℕ) → IsNextPlace pairs kind 0 place → Walked pairs step kind place before before
   walked-first place first = record { low = 0; next = first; grown = refl }
 
   -- after the last place
@@ -101,12 +101,12 @@ module _ (pairs : List Pair) (step : List ℕ → List ℕ) (kind : List ℕ) (b
         ∙ parents-here pair.name pair.target kind _ ((bytes_eq-Decides pair.name kind).1 name) in
         record {
           low = here + 1;
-          next = subst (λ n. IsNext pairs n (here + 1) (get_or next k None)) name (indexed.nexts here k pair (omega arith) size is);
+          next = subst (λ n. IsNextPlace pairs n (here + 1) (get_or next k None)) name (indexed.nexts here k pair (omega arith) size is);
           grown = pushed step queue one pair.target rest _ gives left ∙ walked.grown;
         }
 
 -- the next place is nearer to the end
 pub places_left-falls : (pairs : List Pair) (name : List ℕ) (here : ℕ) (place : Option ℕ) → here < length pairs →
-    IsNext pairs name (here + 1) place → places_left (length pairs) place < places_left (length pairs) (Some here)
+    IsNextPlace pairs name (here + 1) place → places_left (length pairs) place < places_left (length pairs) (Some here)
 places_left-falls pairs name here None within next = omega (arith, within)
 places_left-falls pairs name here (Some place) within next = omega (arith, within, next.0, next.1)

@@ -1,16 +1,14 @@
 -- What a lookup in two halves reads, by where it ends.
-use Rattle.std.proofs.Common.{◌≡◌, ◌∙◌, ℕ, ◌<◌, max, List, Option, Result, Ok, Err, arith, sym, true≢false}
-use Rattle.std.specs.Prelude.{IsErrAnd, false}
+use Rattle.std.proofs.Common.{◌≡◌, ◌∙◌, ℕ, max, List, Option, Result, Ok, Err, arith, sym, true≢false}
+use Rattle.std.specs.Prelude.{IsErrAnd}
 use denote.Bor.{Bor}
-use Rattle.mime_base.specs.Cache.Bytes.{field}
 use Rattle.mime_base.specs.Database.{PlainDatabase}
 use Rattle.mime_lookup.specs.Bounds.{stated_extent}
 use Rattle.mime_lookup.specs.Cached.{cause_of}
 use Rattle.mime_lookup.specs.Content.{Health, Tally, known_content}
-use Rattle.mime_lookup.specs.Fronts.{ReadsFront}
+use Rattle.mime_lookup.specs.Fronts.{ReadsFront, TakesFront}
 use Rattle.mime_lookup.specs.Halves.{Decides}
 use Rattle.mime_lookup.specs.LookUps.{ReadsLookUp}
-use Rattle.mime_lookup.specs.Reads.{AsksUnless, Reads}
 use Rattle.mime_lookup.specs.Spelling.{SpellsGlobs}
 use Rattle.mime_lookup.specs.declared.cached.by_name.NameDecision.TheVariants.{Decided, Left}
 use Rattle.mime_lookup.specs.declared.cached.by_name.Candidates.{Candidates}
@@ -22,7 +20,6 @@ use Rattle.mime_lookup.proofs.ContentLemmas.Reads.{asks_left, asks_nothing, asks
 use Rattle.mime_lookup.proofs.ContentLemmas.Reads.{reads_stopped}
 use Rattle.mime_lookup.proofs.LookUpLemmas.SpelledParts.{spelled_globs, spelled_magic}
 use Rattle.mime_lookup.proofs.StopLemmas.StepStops.{no_read_fault, not_ok, passed_on}
-use Rattle.mime_view.specs.Lists.{LiesHead}
 use Rattle.mime_view.specs.declared.fault.CacheFault.{CacheFault}
 
 module _ {R : Type 0} (remaining : R → Option (List ℕ)) (tally : R → Option Tally) (health : R → Health) (c name : List ℕ)
@@ -44,15 +41,14 @@ module _ {R : Type 0} (remaining : R → Option (List ℕ)) (tally : R → Optio
     pub reads_late : {X Y : Type 0} (candidates : Candidates)
         (gives : (b : PlainDatabase) → SpellsGlobs c b → Decides b name order (Left candidates)) (before after : Option R) (read : ℕ)
         (x : X) (e : CacheFault) (result : Result Y Cause)
-        → IsErrAnd result (λ passed. passed ≡ cause_of e) → (0 < read → LiesHead c (field c 0 6) 12)
-        → Reads remaining tally health (max 128 (stated_extent c)) before after read (Ok x)
+        → IsErrAnd result (λ passed. passed ≡ cause_of e) → TakesFront remaining tally health c before after read (Ok x)
         → ReadsLookUp remaining tally health c name order before after read result
-    reads_late candidates gives before after read x e result passed head is = record {
-      reader = reads_onward remaining tally health (max 128 (stated_extent c)) before after read x is result
+    reads_late candidates gives before after read x e result passed is = record {
+      reader = reads_onward remaining tally health (max 128 (stated_extent c)) before after read x is.uses.reader result
           (passed_on (λ cause. cause ≡ Read → ⊥) (cause_of e) result passed (no_read_fault e));
       asks = λ b globs. not_asked health _ before after (cause_of e) result passed (no_read_fault e);
       unread = λ b globs suffice. absurd (true≢false (sym suffice ∙ (gives b globs).0));
-      head = head;
+      head = is.head;
       exact = λ b within spells. not_ok _ _ result passed;
     }
 
@@ -73,27 +69,25 @@ module _ {R : Type 0} (remaining : R → Option (List ℕ)) (tally : R → Optio
       -- the content was not read
       pub reads_refused : {X Y : Type 0} (before after : Option R) (read : ℕ) (stop : Cause) (result : Result Y Cause)
           → IsErrAnd result (λ passed. passed ≡ stop)
-          → Reads {X = X} remaining tally health (max 128 (stated_extent c)) before after read (Err stop)
-          → AsksUnless {X = X} health false before after (Err stop) → (0 < read → LiesHead c (field c 0 6) 12)
+          → TakesFront {X = X} remaining tally health c before after read (Err stop)
           → ReadsLookUp remaining tally health c name order before after read result
-      reads_refused before after read stop result passed is asked head = record {
-        reader = reads_stopped remaining tally health (max 128 (stated_extent c)) before after read stop result passed is;
-        asks = λ b globs. asks_stopped health _ before after stop result (gives b globs).0 passed asked;
+      reads_refused before after read stop result passed is = record {
+        reader = reads_stopped remaining tally health (max 128 (stated_extent c)) before after read stop result passed is.uses.reader;
+        asks = λ b globs. asks_stopped health _ before after stop result (gives b globs).0 passed is.uses.asks;
         unread = λ b globs suffice. absurd (true≢false (sym suffice ∙ (gives b globs).0));
-        head = head;
+        head = is.head;
         exact = λ b within spells. not_ok _ _ result passed;
       }
 
       -- the front gave a type
       pub reads_chosen : {X Y : Type 0} (before after : Option R) (read : ℕ) (x : X) (front : Option (List ℕ)) (y : Y)
-          → Reads remaining tally health (max 128 (stated_extent c)) before after read (Ok x)
-          → AsksUnless health false before after (Ok x) → ReadsFront remaining c before read front
-          → (0 < read → LiesHead c (field c 0 6) 12) → ReadsLookUp remaining tally health c name order before after read (Ok y)
-      reads_chosen before after read x front y is asked reads head = record {
-        reader = reads_onward remaining tally health (max 128 (stated_extent c)) before after read x is (Ok y) tt;
-        asks = λ b globs. asks_left health _ before after x y (gives b globs).0 asked;
+          → TakesFront remaining tally health c before after read (Ok x) → ReadsFront remaining c before read front
+          → ReadsLookUp remaining tally health c name order before after read (Ok y)
+      reads_chosen before after read x front y is reads = record {
+        reader = reads_onward remaining tally health (max 128 (stated_extent c)) before after read x is.uses.reader (Ok y) tt;
+        asks = λ b globs. asks_left health _ before after x y (gives b globs).0 is.uses.asks;
         unread = λ b globs suffice. absurd (true≢false (sym suffice ∙ (gives b globs).0));
-        head = head;
+        head = is.head;
         exact = λ b within spells.
             read_front remaining c name before order candidates b (gives b (spelled_globs c b within spells)) read front reads
             (spelled_magic c b within spells);

@@ -4,19 +4,19 @@ use Rattle.std.proofs.Math.ListN.{set}
 use Rattle.std.proofs.lemmas.Bool.{cases_eq}
 use Rattle.std.proofs.lemmas.List.{get_or-set_other, get_or-set_same, length-set}
 use Rattle.std.proofs.lemmas.List.Elements.{Contains-append_left, Contains-push}
-use Rattle.mime_lookup.specs.Tables.{AreTables, IsFound, IsSlot, Leads}
+use Rattle.mime_lookup.specs.Tables.{AreTables, IsInTable, IsSlot, LeadsChain}
 use Rattle.mime_lookup.specs.declared.indexed.line_head.LineHead.{LineHead}
 use Rattle.mime_lookup.specs.declared.indexed.tables.Tables.{Tables}
 
 -- a line that is led to is none before the one that leads to it
-pub leads-onward : (steps : ℕ) (nexts : List ℕ) (low link line : ℕ) → Leads steps nexts low link line → link ≤ line + 1
+pub leads-onward : (steps : ℕ) (nexts : List ℕ) (low link line : ℕ) → LeadsChain steps nexts low link line → link ≤ line + 1
 leads-onward zero nexts low link line leads = absurd leads
 leads-onward (suc steps) nexts low link line leads = elim leads.1 [
   | inl is ↦ omega (arith, is)
   | inr rest ↦ omega (arith, leads-after steps nexts link (get_or nexts (link - 1) 0) line rest)
 ]
   where
-    leads-after : (steps : ℕ) (nexts : List ℕ) (low link line : ℕ) → Leads steps nexts low link line → low < line + 1
+    leads-after : (steps : ℕ) (nexts : List ℕ) (low link line : ℕ) → LeadsChain steps nexts low link line → low < line + 1
     leads-after zero nexts low link line leads = absurd leads
     leads-after (suc steps) nexts low link line leads = elim leads.1 [
       | inl is ↦ omega (arith, is, leads.0)
@@ -24,8 +24,8 @@ leads-onward (suc steps) nexts low link line leads = elim leads.1 [
     ]
 
 -- a line that leads to another is it, or names one that does
-pub leads-next : (steps : ℕ) (nexts : List ℕ) (low link line : ℕ) → Leads steps nexts low link line →
-    (link ≡ line + 1) ⊎ ((more : ℕ) × Leads more nexts link (get_or nexts (link - 1) 0) line)
+pub leads-next : (steps : ℕ) (nexts : List ℕ) (low link line : ℕ) → LeadsChain steps nexts low link line →
+    (link ≡ line + 1) ⊎ ((more : ℕ) × LeadsChain more nexts link (get_or nexts (link - 1) 0) line)
 leads-next zero nexts low link line leads = absurd leads
 leads-next (suc steps) nexts low link line leads = elim leads.1 [
   | inl is ↦ inl is
@@ -33,13 +33,13 @@ leads-next (suc steps) nexts low link line leads = elim leads.1 [
 ]
 
 -- one that isn't after the one before it leads nowhere
-pub none-leads : (steps : ℕ) (nexts : List ℕ) (low link line : ℕ) → link ≤ low → Leads steps nexts low link line → ⊥
+pub none-leads : (steps : ℕ) (nexts : List ℕ) (low link line : ℕ) → link ≤ low → LeadsChain steps nexts low link line → ⊥
 none-leads zero nexts low link line not leads = leads
 none-leads (suc steps) nexts low link line not leads = omega (arith, not, leads.0)
 
 -- a line before all others comes to those that name one
-kept : (steps : ℕ) (nexts : List ℕ) (first named low link line : ℕ) → first < low → Leads steps nexts low link line →
-    Leads steps (set nexts first named) low link line
+kept : (steps : ℕ) (nexts : List ℕ) (first named low link line : ℕ) → first < low → LeadsChain steps nexts low link line →
+    LeadsChain steps (set nexts first named) low link line
 kept zero nexts first named low link line before leads = absurd leads
 kept (suc steps) nexts first named low link line before leads = (
   leads.0,
@@ -53,7 +53,7 @@ kept (suc steps) nexts first named low link line before leads = (
 )
 
 -- from a lower one on
-lower : (steps : ℕ) (nexts : List ℕ) (low from link line : ℕ) → from ≤ low → Leads steps nexts low link line → Leads steps nexts from link line
+lower : (steps : ℕ) (nexts : List ℕ) (low from link line : ℕ) → from ≤ low → LeadsChain steps nexts low link line → LeadsChain steps nexts from link line
 lower zero nexts low from link line less leads = absurd leads
 lower (suc steps) nexts low from link line less leads = (omega (arith, less, leads.0), leads.1)
 
@@ -77,11 +77,11 @@ module _ (old new : Tables) (heads : List LineHead) (first : ℕ) (are : AreTabl
         ∙ get_or-set_same old.nexts.items first (get_or old.firsts.items slot 0) 0 inside
 
     -- lines after it lead on
-    still : (steps link line : ℕ) → Leads steps old.nexts.items (first + 1) link line → Leads steps new.nexts.items (first + 1) link line
+    still : (steps link line : ℕ) → LeadsChain steps old.nexts.items (first + 1) link line → LeadsChain steps new.nexts.items (first + 1) link line
     still steps link line leads = rw nexts (kept steps old.nexts.items first (get_or old.firsts.items slot 0) (first + 1) link line (omega arith) leads)
 
     -- a line that was found stays found, through the new one where that is of its slot
-    stays_found : (line : ℕ) (head : LineHead) → IsFound old (first + 1) line head → IsFound new first line head
+    stays_found : (line : ℕ) (head : LineHead) → IsInTable old (first + 1) line head → IsInTable new first line head
     stays_found line head found = elim (cases_eq found.slot slot) [
       | inl same ↦ (
           let link : get_or old.firsts.items found.slot 0 ≡ get_or old.firsts.items slot 0 = ap (λ n. get_or old.firsts.items n 0) same in
@@ -103,7 +103,7 @@ module _ (old new : Tables) (heads : List LineHead) (first : ℕ) (are : AreTabl
     ]
 
     -- the new line is found
-    is_found : (head : LineHead) → IsSlot old.places.items slot head → IsFound new first first head
+    is_found : (head : LineHead) → IsSlot old.places.items slot head → IsInTable new first first head
     is_found head is = record {
       slot = slot;
       is = rw places is;

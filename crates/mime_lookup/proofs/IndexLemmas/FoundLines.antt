@@ -10,7 +10,7 @@ use Rattle.mime_base.specs.declared.magic.host.Host.{Host}
 use Rattle.mime_lookup.proofs.IndexLemmas.LineHeads.{line_heads-length}
 use Rattle.mime_lookup.proofs.IndexLemmas.TopLines.{all_tops, first_top, tops_from}
 use Rattle.mime_lookup.specs.Heads.{AreBytes, AreLineHeads, IsHeadOf, RefusesContent}
-use Rattle.mime_lookup.specs.Tables.{AreTables, Fails, IsFirst, IsFound, Narrows, OthersFail, TablesFail}
+use Rattle.mime_lookup.specs.Tables.{AreTables, FailsLine, IsFirst, IsInTable, Narrows, OthersFail, TablesFail}
 use Rattle.mime_lookup.specs.TopLines.{PlainTop, top_lines}
 use Rattle.mime_lookup.specs.declared.indexed.line_head.LineHead.{LineHead}
 use Rattle.mime_lookup.specs.declared.indexed.tables.Tables.{Tables}
@@ -35,7 +35,7 @@ module _ (heads : List LineHead) (tops : List PlainTop) (content : List ℕ) (ho
     (are : AreLineHeads heads tops) where
   -- a line whose head refuses a content doesn't hold for it
   pub refused_fails : (line : ℕ) (head : LineHead) → head ≡ get_or heads line head → RefusesContent head content →
-      Fails tops content host line
+      FailsLine tops content host line
   refused_fails line head is refuses = λ top inside top_is. head_at line heads tops head top are inside is top_is content host refuses
 
   module _ (bytes : AreBytes content) (tables : Tables) where
@@ -52,7 +52,7 @@ module _ (heads : List LineHead) (tops : List PlainTop) (content : List ℕ) (ho
 
     -- a line that is found, at the byte that stands at its place or at another
     found_fails : (line until : ℕ) (head : LineHead) → head ≡ get_or heads line head → line < until →
-        TablesFail tops content host tables until (length tables.places.items) → IsFound tables 0 line head → Fails tops content host line
+        TablesFail tops content host tables until (length tables.places.items) → IsInTable tables 0 line head → FailsLine tops content host line
     found_fails line until head is below fail found =
         elim (cases_lt head.start (length content)) [
           | inl inside ↦ elim (cases_eq (get_or content head.start 0) head.first) [
@@ -96,7 +96,7 @@ module _ (heads : List LineHead) (tops : List PlainTop) (content : List ℕ) (ho
 
 module _ (content : List ℕ) (host : Host) where
   -- lines that don't hold, from the first on
-  failed-first : (until : ℕ) (tops : List PlainTop) → until ≤ length tops → ((line : ℕ) → line < until → Fails tops content host line) →
+  failed-first : (until : ℕ) (tops : List PlainTop) → until ≤ length tops → ((line : ℕ) → line < until → FailsLine tops content host line) →
       first_top content host tops ≡ first_top content host (drop until tops)
   failed-first zero tops within fail = refl
   failed-first (suc until) [] within fail = absurd (omega arith)

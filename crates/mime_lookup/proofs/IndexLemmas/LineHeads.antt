@@ -5,7 +5,7 @@ use Rattle.std.proofs.lemmas.Bool.{cases_lt, false_from_ne_true}
 use Rattle.std.proofs.lemmas.List.{get_or-drop, get_or-take, get_or_past, length-take-le}
 use Rattle.std.proofs.lemmas.Slice.Eq.{bytes_eq-Decides}
 use Rattle.mime_base.specs.Magic.Holds.{bytes_of_mask, equals_from}
-use Rattle.mime_base.specs.Magic.Masking.{in_order, under_mask, window_equals}
+use Rattle.mime_base.specs.Magic.Masking.{in_host_order, under_mask, window_equals}
 use Rattle.mime_base.specs.Magic.Mirrored.{mirrored}
 use Rattle.mime_base.specs.Magic.{PlainLine, PlainMatchlet}
 use Rattle.mime_base.specs.declared.magic.host.Host.{Host}
@@ -33,15 +33,15 @@ module _ (value mask : List ℕ) (word : ℕ) (host : Host) (window : List ℕ) 
   unfolding window_equals
   kept_byte i below kept equal =
       let moves = mirrors word host value in
-      let alike : under_mask value mask word host window ≡ under_mask value mask word host (in_order word host value) =
+      let alike : under_mask value mask word host window ≡ under_mask value mask word host (in_host_order word host value) =
       (bytes_eq-Decides _ _).0 equal in
       let left : get_or (under_mask value mask word host window) i 0 ≡ get_or window i 0 =
       get_or-under_mask value mask word host window i same below ∙ ap (bit_and (get_or window i 0)) (whole i kept)
       ∙ whole_byte _ (window_bytes i) in
-      let moved : get_or (in_order word host value) i 0 ≡ get_or value i 0 =
+      let moved : get_or (in_host_order word host value) i 0 ≡ get_or value i 0 =
       moves.moved i 0 below ∙ ap (λ (n : ℕ). get_or value n 0) (stays i) in
-      let right : get_or (under_mask value mask word host (in_order word host value)) i 0 ≡ get_or value i 0 =
-      get_or-under_mask value mask word host (in_order word host value) i moves.size below
+      let right : get_or (under_mask value mask word host (in_host_order word host value)) i 0 ≡ get_or value i 0 =
+      get_or-under_mask value mask word host (in_host_order word host value) i moves.size below
       ∙ ap₂ bit_and moved (whole i kept) ∙ whole_byte _ (value_bytes i) in
       sym left ∙ ap (λ bytes. get_or bytes i 0) alike ∙ right
 

@@ -1,5 +1,5 @@
 -- Why a question to a cache stops: its header, or what is looked at once it is open.
-use Rattle.std.proofs.Common.{◌≡◌, ◌∙◌, ℕ, ◌≤◌, List, length, Result, Err, refl, ap}
+use Rattle.std.proofs.Common.{◌≡◌, ◌∙◌, ℕ, ◌≤◌, List, length, Result, Err, ap}
 use Rattle.std.specs.Prelude.{IfErr}
 use Rattle.std.proofs.lemmas.Result.{IfErr-weaker}
 use Rattle.mime_base.specs.Cache.Bytes.{Stands}
@@ -10,7 +10,7 @@ use Rattle.mime_lookup.specs.Cached.{cause_of}
 use Rattle.mime_lookup.specs.declared.stopped.Cause.TheVariants as cause
 use Rattle.mime_lookup.specs.declared.stopped.Stopped.{Stopped}
 use Rattle.mime_lookup.proofs.StopLemmas.Cause.{caused}
-use Rattle.mime_lookup.proofs.StopLemmas.OpenFaults.{cause_of-open_fault, header_without_fault, on_ok, opens_without_fault, refused_with}
+use Rattle.mime_lookup.proofs.StopLemmas.OpenFaults.{cause_of-open_fault, header_without_fault, on_ok, opens_without_fault, same_fault}
 use Rattle.mime_view.specs.Opening.{IsOpenFault, Opens}
 use Rattle.mime_view.specs.declared.fault.CacheFault.{CacheFault}
 use Rattle.mime_view.specs.declared.fault.CacheFault.TheVariants.{OutOfMemory}
@@ -19,9 +19,9 @@ use Rattle.mime_view.specs.declared.fault.CacheFault.TheVariants.{OutOfMemory}
 pub unopened : {X : Type 0} (c : List ℕ) (e : CacheFault) (IsFault : CacheFault → Type 0) (IsEnough : PlainDatabase → Type 0)
     → IsOpenFault c e → IsFault e → ((b : PlainDatabase) → IsEnough b → (offsets : Offsets) × HeaderAt (Stands c) offsets)
     → StopsAsking {X = X} cause_of c IsFault IsEnough (Err e)
-unopened {X} c e IsFault IsEnough is fault header = record {
+unopened c e IsFault IsEnough is fault header = record {
   opened = tt;
-  refused = λ x other. ap cause_of (refused_with c e x is other {X = X} (Err e) refl) ∙ cause_of-open_fault c x other;
+  refused = λ x other. ap cause_of (same_fault c e x is other) ∙ cause_of-open_fault c x other;
   need = λ b enough small. let stand = header b enough in absurd (header_without_fault c stand.0 e stand.1 small is);
   fault = caused IsFault e fault;
 }

@@ -8,7 +8,7 @@ use Rattle.mime_lookup.specs.Affords.{Affords, rule_records}
 use Rattle.mime_lookup.specs.CheckingOrder.{Chooses, GlobsDecide, front_size, globs_suffice, read_of}
 use Rattle.mime_lookup.specs.Content.{known_content}
 use Rattle.mime_lookup.specs.Fronts.{ReadsFront}
-use Rattle.mime_lookup.specs.Halves.{AffordsRest, Decides, Leaves, order_of, owed_records}
+use Rattle.mime_lookup.specs.Halves.{AffordsRest, Decides, Leaves, order_left, owed_records}
 use Rattle.mime_lookup.specs.Spelling.{SpellsGlobs, SpellsMagic}
 use Rattle.mime_lookup.specs.Spent.{IsUsedUp}
 use Rattle.mime_lookup.specs.Steps.{Stops, Suffices, SufficesForContent}
@@ -16,7 +16,7 @@ use Rattle.mime_lookup.specs.declared.cached.by_name.NameDecision.TheVariants.{D
 use Rattle.mime_lookup.specs.declared.cached.by_name.Candidates.{Candidates}
 use Rattle.mime_lookup.specs.declared.order.Order.{Order}
 use Rattle.mime_lookup.specs.declared.stopped.Cause.{Cause}
-use Rattle.mime_lookup.proofs.OrderLemmas.ByContents.{suffices_globs, used_for, without}
+use Rattle.mime_lookup.proofs.OrderLemmas.ByContents.{suffices_globs, used_after, used_for, without}
 use Rattle.mime_lookup.proofs.SniffLemmas.Front.{chooses_known, size_known}
 use Rattle.mime_lookup.proofs.LookUpLemmas.SpelledParts.{spelled_magic}
 use Rattle.mime_lookup.proofs.StopLemmas.StepStops.{stops_then}
@@ -63,16 +63,16 @@ module _ {R : Type 0} (remaining : R → Option (List ℕ)) (c name : List ℕ) 
 
     module _ (read : ℕ) (front : Option (List ℕ)) (reads : ReadsFront remaining c content read front) where
       -- and for the front
-      pub decides : GlobsDecide b name order (content ≡ None) → GlobsDecide b name (order_of candidates) (front ≡ None)
+      pub decides : GlobsDecide b name order (content ≡ None) → GlobsDecide b name (order_left candidates) (front ≡ None)
       decides decide = rw gives.1 (decide_for b name order (content ≡ None) (front ≡ None) reads.absent decide)
 
-      pub front_stands : Suffices c name order (content ≡ None) b → Suffices c name (order_of candidates) (front ≡ None) b
+      pub front_stands : Suffices c name order (content ≡ None) b → Suffices c name (order_left candidates) (front ≡ None) b
       front_stands (inl whole) = inl whole
       front_stands (inr globs) = inr (globs.0, decides globs.1)
 
       -- the type that the front gives is that of the content
       pub chosen_front : (host : Host) (kind : List ℕ) → Suffices c name order (content ≡ None) b
-          → Chooses b name front host (order_of candidates) kind
+          → Chooses b name front host (order_left candidates) kind
           → IfSome (known_content remaining content) (λ known. Chooses b name known host order kind)
       chosen_front host kind (inl whole) chosen =
           chooses_known b name host kind order (known_content remaining content) front
@@ -92,15 +92,15 @@ module _ {R : Type 0} (remaining : R → Option (List ℕ)) (c name : List ℕ) 
     (gives : (b : PlainDatabase) → SpellsGlobs c b → Decides b name order (Left candidates)) (read : ℕ) (front : Option (List ℕ))
     (reads : ReadsFront remaining c content read front)
   where
-    pub stops_front : (old kept after : Budget) (stop : Cause) → kept.value_bytes ≡ old.value_bytes
+    pub stops_front : (old kept after : Budget) (stop : Cause) → kept.value_bytes ≡ old.value_bytes → kept.records ≤ old.records
         → ((b : PlainDatabase) → SpellsGlobs c b → old.records + owed_records b candidates ≤ kept.records + rule_records b)
-        → Stops (IsUsedUp c (front ≡ None) after)
-        (λ b. Suffices c name (order_of candidates) (front ≡ None) b × Leaves b name candidates × AffordsRest b candidates kept) (λ _. ⊥)
+        → Stops (IsUsedUp c (front ≡ None) kept after)
+        (λ b. Suffices c name (order_left candidates) (front ≡ None) b × Leaves b name candidates × AffordsRest b candidates kept) (λ _. ⊥)
         stop
-        → Stops (IsUsedUp c (content ≡ None) after) (λ b. Suffices c name order (content ≡ None) b × Affords b old)
+        → Stops (IsUsedUp c (content ≡ None) old after) (λ b. Suffices c name order (content ≡ None) b × Affords b old)
         (λ b. GlobsDecide b name order (content ≡ None) → ⊥) stop
-    stops_front old kept after stop same takes is =
-        stops_then stop is (used_for c after reads.absent)
+    stops_front old kept after stop same fewer takes is =
+        stops_then stop is (λ used. used_after c old kept after fewer same (used_for c kept after reads.absent used))
         (λ b enough.
         let globs = suffices_globs c name (content ≡ None) b order enough.0 in (
           front_stands remaining c name content order candidates b (gives b globs) read front reads enough.0,

@@ -5,7 +5,7 @@ use Rattle.mime_base.specs.Database.{PlainDatabase}
 use Rattle.mime_base.specs.declared.magic.host.Host.{Host}
 use Rattle.mime_lookup.specs.Affords.{Affords, rule_records}
 use Rattle.mime_lookup.specs.CheckingOrder.{Chooses, GlobsDecide, before_globs}
-use Rattle.mime_lookup.specs.Halves.{AffordsRest, Decides, Leaves, order_of, owed_records}
+use Rattle.mime_lookup.specs.Halves.{AffordsRest, Decides, Leaves, order_left, owed_records}
 use Rattle.mime_lookup.specs.NameAlone.{SufficesForName}
 use Rattle.mime_lookup.specs.Sniffing.{sniffed}
 use Rattle.mime_lookup.specs.Steps.{Suffices}
@@ -33,11 +33,11 @@ module _ (c name : List ℕ) (order : Order) (candidates : Candidates) (b : Plai
     (gives : Decides b name order (Left candidates))
   where
     -- globs that decide without a content do so of what the name leaves, without a front
-    pub decides_unseen : GlobsDecide b name order ⊤ → GlobsDecide b name (order_of candidates) NoFront
+    pub decides_unseen : GlobsDecide b name order ⊤ → GlobsDecide b name (order_left candidates) NoFront
     decides_unseen decide = rw gives.1 (decide_for b name order ⊤ NoFront (λ none. refl) decide)
 
     -- and what suffices without a content suffices there
-    pub suffices_unseen : Suffices c name order ⊤ b → Suffices c name (order_of candidates) NoFront b
+    pub suffices_unseen : Suffices c name order ⊤ b → Suffices c name (order_left candidates) NoFront b
     suffices_unseen (inl whole) = inl whole
     suffices_unseen (inr globs) = inr (globs.0, decides_unseen globs.1)
 
@@ -45,7 +45,7 @@ module _ (c name : List ℕ) (order : Order) (candidates : Candidates) (b : Plai
     pub affords_unseen : (old kept : Budget) → kept.value_bytes ≡ old.value_bytes
         → old.records + owed_records b candidates ≤ kept.records + rule_records b
         → SufficesForName c name order b × Affords b old
-        → Suffices c name (order_of candidates) NoFront b × Leaves b name candidates × AffordsRest b candidates kept
+        → Suffices c name (order_left candidates) NoFront b × Leaves b name candidates × AffordsRest b candidates kept
     affords_unseen old kept same takes enough = (
       suffices_unseen enough.0.0,
       gives.2,
@@ -56,6 +56,6 @@ module _ (c name : List ℕ) (order : Order) (candidates : Candidates) (b : Plai
     )
 
     -- the type that comes without a front is the type without a content
-    pub chosen_unseen : (kind : List ℕ) (host other : Host) → Chooses b name None host (order_of candidates) kind
+    pub chosen_unseen : (kind : List ℕ) (host other : Host) → Chooses b name None host (order_left candidates) kind
         → Chooses b name None other order kind
     chosen_unseen kind host other chosen = any_host b name kind host other order (rw gives.1 at chosen)

@@ -7,7 +7,7 @@ use Rattle.mime_lookup.specs.Cached.{IsStop}
 use Rattle.mime_lookup.specs.CheckingOrder.{GlobsDecide}
 use Rattle.mime_lookup.specs.Content.{GivesUp, Health, OfReader, Tally}
 use Rattle.mime_lookup.specs.Headline.{IsHeadline, IsRefused}
-use Rattle.mime_lookup.specs.LookUps.{AnswersLookUp, CostsLookUp, ReadsLookUp, StopsLookUp, cause_in, meter_in, read_in}
+use Rattle.mime_lookup.specs.LookUps.{AnswersLookUp, CostsLookUp, ReadsLookUp, ShowsFault, StopsLookUp, cause_in, meter_in, read_in}
 use Rattle.mime_lookup.specs.Spent.{UsesUp}
 use Rattle.mime_lookup.specs.StepFaults.{IsLookUpFault}
 use Rattle.mime_lookup.specs.Steps.{IsPacked, Stops, Suffices}
@@ -16,8 +16,6 @@ use Rattle.mime_lookup.specs.declared.order.Order.{Order}
 use Rattle.mime_lookup.specs.declared.stopped.Cause.{Cause}
 use Rattle.mime_lookup.specs.declared.stopped.Cause.TheVariants as cause
 use Rattle.mime_lookup.specs.declared.stopped.Stopped.{Stopped}
-use Rattle.mime_view.specs.Opening.{IsOpenFault}
-use Rattle.mime_view.specs.declared.fault.CacheFault.{CacheFault}
 
 module _ {R : Type 0} {remaining : R → Option (List ℕ)} {tally : R → Option Tally} {health : R → Health} {c name : List ℕ} {order : Order}
     {before after : Option R} {read : ℕ}
@@ -51,18 +49,17 @@ module _ {R : Type 0} {remaining : R → Option (List ℕ)} {tally : R → Optio
     }
 
 -- when it stops, of a cause
-pub stops_cause : {R : Type 0} {c name : List ℕ} {order : Order} {before after : Option R} (read : ℕ) (meter : Meter) (stop : Cause)
-    → length name ≤ 4096 → ((e : CacheFault) → IsOpenFault c e → stop ≡ cause.Cache e)
-    → IsStop (IsLookUpFault c name (before ≡ None)) stop
+pub stops_cause : {R X : Type 0} {c name : List ℕ} {order : Order} {before after : Option R} (read : ℕ) (meter : Meter) (stop : Cause)
+    → length name ≤ 4096 → ShowsFault {X = X} cause.Cache c (IsStop (IsLookUpFault c name (before ≡ None))) (Err stop)
     → Stops (UsesUp c (before ≡ None) meter.nodes)
     (λ b. Suffices c name order (before ≡ None) b × IsPacked c b)
     (λ b. GlobsDecide b name order (before ≡ None) → ⊥) stop
     → StopsLookUp c name order before after (Err (record { cause = stop; read = read; meter = meter }))
-stops_cause read meter stop short refused fault is = record {
+stops_cause read meter stop short faults is = record {
   too_long = λ long. absurd (omega arith);
-  refused = λ _ e opens. refused e opens;
+  refused = λ _. faults.refused;
   opened = tt;
-  fault = λ _. fault;
+  fault = λ _. faults.fault;
   spent = is.spent;
   need = λ b enough limit packed _. is.need b (enough, record { small = limit; packed = packed });
 }

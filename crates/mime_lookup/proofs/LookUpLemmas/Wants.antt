@@ -1,25 +1,18 @@
--- How much of a content is wanted, by what the name gave, and why a lookup of a name alone stops.
-use Rattle.std.proofs.Common.{◌≡◌, ◌∙◌, ◌⊎◌, ℕ, ◌≤◌, true, false, max, List, length, Err, refl, sym, ap, inl, inr, arith}
-use Rattle.std.specs.Prelude.{⊤}
+-- How much of a content is wanted, by what the name gave, and why that is not said.
+use Rattle.std.proofs.Common.{◌≡◌, ◌∙◌, ◌⊎◌, ℕ, true, false, max, List, refl, sym, inl, inr}
 use Rattle.mime_base.specs.Cache.Bytes.{field}
 use Rattle.mime_base.specs.Database.{PlainDatabase}
-use Rattle.mime_lookup.specs.Bounds.{KeepsBounds, stated_extent}
+use Rattle.mime_lookup.specs.Bounds.{stated_extent}
 use Rattle.mime_lookup.specs.Cached.{cause_of}
 use Rattle.mime_lookup.specs.CheckingOrder.{globs_suffice, read_limit}
-use Rattle.mime_lookup.specs.NameAlone.{IsNameLookUp, SufficesForName}
 use Rattle.mime_lookup.specs.Spelling.{SpellsGlobs, SpellsMagic}
-use Rattle.mime_lookup.specs.Spent.{UsesUp}
-use Rattle.mime_lookup.specs.StepFaults.{IsMagicHeadFault, IsNameFault}
-use Rattle.mime_lookup.specs.Steps.{IsPacked, Stops}
+use Rattle.mime_lookup.specs.StepFaults.{IsMagicHeadFault}
+use Rattle.mime_lookup.specs.Steps.{Stops}
 use Rattle.mime_lookup.specs.Wanted.{IsWanted, wanted_of}
 use Rattle.mime_lookup.specs.declared.order.Order.{Order}
-use Rattle.mime_lookup.specs.declared.stopped.Stopped.{Stopped}
 use Rattle.mime_lookup.proofs.LookUpLemmas.EnoughFronts.{enough}
-use Rattle.mime_lookup.proofs.StopLemmas.Cause.{caused}
-use Rattle.mime_lookup.proofs.StopLemmas.OpenFaults.{cause_of-open_fault}
 use Rattle.mime_lookup.proofs.StopLemmas.PlacedFaults.{no_place}
-use Rattle.mime_lookup.proofs.StopLemmas.StepStops.{no_read_fault, stops_for}
-use Rattle.mime_view.specs.Opening.{IsOpenFault}
+use Rattle.mime_lookup.proofs.StopLemmas.StepStops.{stops_for}
 use Rattle.mime_view.specs.declared.fault.CacheFault.{CacheFault}
 
 module _ (c name : List ℕ) (order : Order) where
@@ -61,29 +54,3 @@ module _ (c name : List ℕ) (order : Order) where
       → (globs_suffice b name order ≡ true) ⊎ SpellsMagic c b → SpellsMagic c b
   magic_for_front b conflict (inl suffice) = absurd cc
   magic_for_front b conflict (inr magic) = magic
-
-  -- no answer, for a fault of the cache
-  pub stops_name : (e : CacheFault) (stopped : Stopped) → stopped.cause ≡ cause_of e → stopped.read ≡ 0 → length name ≤ 4096
-      → ((x : CacheFault) → IsOpenFault c x → e ≡ x)
-      → Stops (UsesUp c ⊤ stopped.meter.nodes)
-      (λ b. SufficesForName c name order b × IsPacked c b) (λ _. ⊥) (cause_of e)
-      → IsNameFault c name e → KeepsBounds (length name) c 0 stopped.meter → IsNameLookUp c name order (Err stopped)
-  stops_name e stopped same none short refused stops fault bounds = record {
-    answers = tt;
-    too_long = λ long. absurd (omega (arith, short, long));
-    refused = λ _ x opens. same ∙ ap cause_of (refused x opens) ∙ cause_of-open_fault c x opens;
-    opened = tt;
-    fault = λ _. rw same (caused (IsNameFault c name) e fault);
-    spent = λ spent. stops.spent (sym same ∙ spent);
-    need = λ b enough small packed _. same ∙ memory (stops.need b (enough, record { small = small; packed = packed }));
-    read = none;
-    readable = λ failed. no_read_fault e (sym same ∙ failed);
-    bounds = bounds;
-    counted = tt;
-    near = λ b globs decide. tt;
-  }
-    where
-      -- where no read can fail, memory was refused
-      memory : {P Q : Type 0} → P ⊎ (Q × ⊥) → P
-      memory (inl refused) = refused
-      memory (inr read) = absurd read.1

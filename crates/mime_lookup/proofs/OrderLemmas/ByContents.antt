@@ -12,7 +12,7 @@ use Rattle.mime_base.specs.declared.magic.host.Host.{Host}
 use Rattle.mime_lookup.specs.CheckingOrder.{GlobsDecide, are_one_type}
 use Rattle.mime_lookup.specs.Choice.{kept}
 use Rattle.mime_lookup.specs.Finding.{PlainFinding, found_in, is_by_magic, is_high}
-use Rattle.mime_lookup.specs.Halves.{Leaves, order_of}
+use Rattle.mime_lookup.specs.Halves.{Leaves, order_left}
 use Rattle.mime_lookup.specs.Spelling.{SpellsGlobs, SpellsMagic}
 use Rattle.mime_lookup.specs.Spent.{IsUsedUp}
 use Rattle.mime_lookup.specs.Steps.{Suffices, SufficesForChoice, SufficesForContent}
@@ -26,7 +26,7 @@ use Rattle.mime_view.specs.declared.budget.Budget.{Budget}
 
 -- where candidates are left and the globs decide, there is no content
 pub without : (b : PlainDatabase) (name : List ℕ) (NoContent : Type 0) (candidates : Candidates) → Leaves b name candidates
-    → GlobsDecide b name (order_of candidates) NoContent → NoContent
+    → GlobsDecide b name (order_left candidates) NoContent → NoContent
 without b name NoContent (Kept kinds) leaves decide = (none_kept b name NoContent kinds leaves.1 leaves.0 decide).1
 without b name NoContent (Every kinds asked) leaves decide = (few_asked b name NoContent asked leaves.2 leaves.0 decide).1
 without b name NoContent Unasked leaves decide = (decide_without b name NoContent decide).0
@@ -40,9 +40,30 @@ not_high b front host found is none high =
     absurd cc
 
 -- what implies that there is no content
-pub used_for : (c : List ℕ) {A B : Type 0} (left : Budget) → (A → B) → IsUsedUp c B left → IsUsedUp c A left
-used_for c left weaker (inl records) = inl records
-used_for c left weaker (inr value) = inr ((λ none. value.0 (weaker none)), value.1, value.2, value.3)
+pub used_for : (c : List ℕ) {A B : Type 0} (old left : Budget) → (A → B) → IsUsedUp c B old left → IsUsedUp c A old left
+used_for c old left weaker (inl records) = inl records
+used_for c old left weaker (inr value) = inr ((λ none. value.0 (weaker none)), value.1)
+
+-- where there is no content, no record is left, whatever was taken before
+pub used_unread : (c : List ℕ) {A B : Type 0} (old mid left : Budget) → B → IsUsedUp c B mid left → IsUsedUp c A old left
+used_unread c old mid left none (inl records) = inl records
+used_unread c old mid left none (inr value) = absurd (value.0 none)
+
+-- after steps that take no value bytes
+pub used_after : (c : List ℕ) {A : Type 0} (old mid left : Budget) → mid.records ≤ old.records → mid.value_bytes ≡ old.value_bytes
+    → IsUsedUp c A mid left → IsUsedUp c A old left
+used_after c old mid left fewer same (inl records) = inl records
+used_after c old mid left fewer same (inr value) =
+    let states = value.1 in
+    inr (
+      value.0,
+      record {
+        lines = states.lines;
+        each = states.each;
+        few = omega (arith, states.few, fewer);
+        over = omega (arith, states.over, same);
+      },
+    )
 
 module _ (c name : List ℕ) (NoContent : Type 0) (b : PlainDatabase) where
   -- in each case the glob rules stand
@@ -51,7 +72,7 @@ module _ (c name : List ℕ) (NoContent : Type 0) (b : PlainDatabase) where
   suffices_globs order (inr globs) = globs.0
 
   -- and what is left for the front stands
-  pub suffices_content : (candidates : Candidates) → Leaves b name candidates → Suffices c name (order_of candidates) NoContent b
+  pub suffices_content : (candidates : Candidates) → Leaves b name candidates → Suffices c name (order_left candidates) NoContent b
       → SufficesForContent c NoContent b
   suffices_content candidates leaves (inl whole) = inl (spelled_magic c b whole.0 whole.1)
   suffices_content candidates leaves (inr globs) = inr (without b name NoContent candidates leaves globs.1)

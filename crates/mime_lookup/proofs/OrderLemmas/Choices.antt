@@ -46,6 +46,13 @@ pub chooses-found : (pairs : Pairs) (base found : List ℕ) (kept : List (Bor (L
 chooses-found pairs base found [] same none = same
 chooses-found pairs base found (kind ∷ kept) same none = absurd (omega arith)
 
+-- one type is kept
+pub chooses-one : (pairs : Pairs) (found : List ℕ) (kept : List (Bor (List ℕ))) (d : Bor (List ℕ)) → length kept ≡ 1 →
+    ChoosesAmong pairs (kinds_of kept) found (get_or kept 0 d).now
+chooses-one pairs found [] d one = absurd (omega arith)
+chooses-one pairs found (kind ∷ []) d one = refl
+chooses-one pairs found (kind ∷ next ∷ more) d one = absurd (omega arith)
+
 -- the first of some types is one of them
 pub one_of : (kept : List (Bor (List ℕ))) (d : Bor (List ℕ)) (kind : List ℕ) → 0 < length kept →
     Contains ((get_or kept 0 d).now ∷ kinds_of kept) kind → Contains (kinds_of kept) kind

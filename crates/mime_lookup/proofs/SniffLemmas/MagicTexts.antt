@@ -2,7 +2,7 @@
 use Rattle.std.proofs.Common.{◌≡◌, ℕ, ◌+◌, Bool, true, false, cond, List, [], ◌∷◌, Option, Some, None, Bor}
 use Rattle.std.specs.Prelude.{IfSome}
 use Rattle.mime_base.specs.Cache.Bytes.{Stands}
-use Rattle.mime_base.specs.Format.Magic.{IsSection}
+use Rattle.mime_base.specs.Format.Magic.{IsSectionRecord}
 use Rattle.mime_base.specs.Format.Records.{RecordsAt}
 use Rattle.mime_base.specs.Magic.Holds.{first_magic, some_holds}
 use Rattle.mime_base.specs.Magic.{PlainSection}
@@ -18,7 +18,7 @@ IsFoundText c found = IfSome found (λ it. IsCacheText c it.0)
 
 -- the type of the first section that holds is a text of the cache
 pub first_text : (c : List ℕ) (at : ℕ) (sections : List PlainSection) (content : List ℕ) (host : Host)
-    → RecordsAt (Stands c) 16 (IsSection (Stands c)) at sections → IsFoundText c (first_magic sections content host)
+    → RecordsAt (Stands c) 16 (IsSectionRecord (Stands c)) at sections → IsFoundText c (first_magic sections content host)
 first_text c at [] content host stand = rw (first_magic-nil content host) tt
 first_text c at (section ∷ sections) content host stand =
     rw (first_magic-section content host section sections) (by_cases (some_holds section.lines content host)

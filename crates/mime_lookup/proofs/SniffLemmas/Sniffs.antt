@@ -12,7 +12,7 @@ use Rattle.mime_base.specs.Magic.Holds.{first_magic}
 use Rattle.mime_base.specs.declared.magic.host.Host.{Host}
 use Rattle.mime_base.proofs.MagicLemmas.Fronts.{first_magic-front, looks_textual-front}
 use Rattle.mime_lookup.specs.CheckingOrder.{IsSniffed, before_globs, front_size, has_magic, is_section, of_high_priority, read_limit}
-use Rattle.mime_lookup.specs.Fronts.{IsRead}
+use Rattle.mime_lookup.specs.Fronts.{IsEnoughFront}
 use Rattle.mime_lookup.specs.declared.sniff.Sniffed.{Sniffed}
 use Rattle.mime_lookup.specs.Sniffing.{FrontIsEnough, sniffed, sniffed_by_bytes, sniffed_by_magic}
 use Rattle.mime_lookup.specs.declared.order.Order.TheVariants.{MagicFirst}
@@ -61,7 +61,7 @@ has_magic-front b front rest host (inr long) =
 
 -- what was read of a content with these bytes
 pub is_read : (b : PlainDatabase) (whole front : List ℕ) (after : Option (List ℕ)) → Consumes (Some whole) after front →
-    length front ≤ read_limit b → (length front < read_limit b → IsAtEnd after) → IsRead b whole front
+    length front ≤ read_limit b → (length front < read_limit b → IsAtEnd after) → IsEnoughFront b whole front
 unfolding read_limit
 is_read b whole front None consumed limited ends = absurd consumed
 is_read b whole front (Some rest) consumed limited ends =

@@ -13,7 +13,7 @@ use Rattle.mime_base.proofs.KeptLemmas.{of_greatest-rank_of_rule}
 use Rattle.mime_lookup.specs.Cached.{IsCacheText}
 use Rattle.mime_lookup.specs.Choice.{candidates, kept}
 use Rattle.mime_lookup.specs.NameTypes.{types_for}
-use Rattle.mime_lookup.specs.ReadBack.{AreRulesOf, AreTypesOf}
+use Rattle.mime_lookup.specs.ReadBack.{AreRulesReadBack, AreTypesOf}
 use Rattle.mime_lookup.specs.Spelling.{SpellsGlobs}
 use Rattle.mime_lookup.proofs.IndexLemmas.LentRules.{candidates-step, kept-step}
 use Rattle.mime_lookup.proofs.OrderLemmas.Candidates.{kept_front}
@@ -75,7 +75,7 @@ module _ (c name : List ℕ) (d : PlainDatabase) (spelled : SpellsGlobs c d) whe
   types_texts Candidates = steps_texts (candidate_rules d.rules name) candidates_texts
 
 -- rules of an index over a cache, and what the index gives for a name
-module _ (c name : List ℕ) (rules : List GlobRule) (of_cache : AreRulesOf c rules) where
+module _ (c name : List ℕ) (rules : List GlobRule) (of_cache : AreRulesReadBack c rules) where
   -- the database whose rules they are
   abbrev d : PlainDatabase
   d = of_cache.database

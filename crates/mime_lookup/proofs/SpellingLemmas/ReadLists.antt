@@ -1,7 +1,9 @@
 -- The lists of a cache that were read back are a database that it spells.
 use Rattle.std.proofs.Common.{◌≡◌, ℕ, List, [], map, arith}
+use Rattle.std.specs.HashMap.{HashMap}
 use Rattle.std.specs.List.{All}
 use Rattle.std.proofs.lemmas.List.Elements.{All-map, All-weaker}
+use denote.Bor.{Bor}
 use Rattle.mime_base.specs.Database.{PlainDatabase}
 use Rattle.mime_base.specs.Database.Limits.{KeepsLimits}
 use Rattle.mime_base.specs.Kept.{FitsRank}
@@ -10,7 +12,7 @@ use Rattle.mime_load.specs.Lent.{plain_pairs}
 use Rattle.mime_load.specs.NameLists.{AreNameLists, listed_rules}
 use Rattle.mime_load.specs.declared.name_lists.NameLists.{NameLists}
 use Rattle.mime_lookup.specs.Indexed.{unaliased_rule}
-use Rattle.mime_lookup.specs.ReadBack.{AreRulesOf}
+use Rattle.mime_lookup.specs.ReadBack.{AreRulesReadBack, AreTargets, AreTargetsOf}
 use Rattle.mime_lookup.specs.Spelling.{SpellsGlobs}
 
 -- their rules and aliases
@@ -47,5 +49,17 @@ module _ (c : List ℕ) (lists : NameLists) (stand : AreNameLists c lists) where
 
   -- these are the rules of the cache
   pub rules_of_lists : (rules : List GlobRule) → rules ≡ map (unaliased_rule (plain_pairs lists.aliases.items)) (listed_rules lists)
-      → AreRulesOf c rules
+      → AreRulesReadBack c rules
   rules_of_lists rules are = record { database = listed lists; spelled = spelled; are = are }
+
+  -- these are the targets of its aliases
+  pub targets_of_lists : {S : Type 0} (targets : HashMap (Bor (List ℕ)) (Bor (List ℕ)) S)
+      → AreTargets (plain_pairs lists.aliases.items) targets
+      → AreTargetsOf c targets
+  targets_of_lists targets are = record {
+    offsets = stand.offsets;
+    header = stand.header;
+    aliases = plain_pairs lists.aliases.items;
+    stand = stand.aliases;
+    are = are;
+  }

@@ -47,13 +47,12 @@ rules_by_targets aliases targets are (rule ∷ rules) =
     ap₂ (λ (x : GlobRule) (xs : List GlobRule). x ∷ xs) (sym (ap type (are rule.kind))) (rules_by_targets aliases targets are rules)
 
 -- the rules of three lists, pushed one after another
-pub rules_joined : {S : Type 0} (aliases : List (List ℕ × List ℕ)) (targets : HashMap (Bor (List ℕ)) (Bor (List ℕ)) S)
-    → AreTargets aliases targets → (first leaves last one two all : List GlobRule) → one ≡ map (target_rule targets) first
+pub rules_joined : {S : Type 0} (targets : HashMap (Bor (List ℕ)) (Bor (List ℕ)) S) (first leaves last one two all : List GlobRule)
+    → one ≡ map (target_rule targets) first
     → two ≡ one ++ map (target_rule targets) leaves → all ≡ two ++ map (target_rule targets) last
-    → all ≡ map (unaliased_rule aliases) (first ++ (leaves ++ last))
-rules_joined aliases targets are first leaves last one two all is_one is_two is_all =
+    → all ≡ map (target_rule targets) (first ++ (leaves ++ last))
+rules_joined targets first leaves last one two all is_one is_two is_all =
     let by = target_rule targets in
     is_all ∙ ap (λ (rules : List GlobRule). rules ++ map by last) (is_two ∙ ap (λ (rules : List GlobRule). rules ++ map by leaves) is_one)
     ∙ append_assoc (map by first) (map by leaves) (map by last)
     ∙ ap (λ (rules : List GlobRule). map by first ++ rules) (sym (map-append by leaves last)) ∙ sym (map-append by first (leaves ++ last))
-    ∙ rules_by_targets aliases targets are (first ++ (leaves ++ last))

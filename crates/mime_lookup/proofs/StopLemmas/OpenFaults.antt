@@ -1,10 +1,9 @@
 -- What is wrong with a header: one fault at most, none where it opens, and the cause that it is.
-use Rattle.std.proofs.Common.{◌≡◌, ◌∙◌, ◌⊎◌, ℕ, ◌+◌, ◌*◌, ◌<◌, ◌≤◌, List, length, Result, Ok, Err, inl, inr, refl, sym, ap, ap₂, arith}
-use Rattle.std.specs.Prelude.{IsErrAnd, OnOk}
+use Rattle.std.proofs.Common.{◌≡◌, ◌∙◌, ◌⊎◌, ℕ, ◌+◌, ◌*◌, ◌<◌, ◌≤◌, List, length, Result, Ok, Err, inl, inr, refl, sym, ap₂, arith}
+use Rattle.std.specs.Prelude.{OnOk}
 use Rattle.mime_base.specs.Cache.Bytes.{Stands}
 use Rattle.mime_base.specs.Format.Header.{HeaderAt, Offsets}
 use Rattle.mime_lookup.specs.Cached.{cause_of}
-use Rattle.mime_lookup.specs.declared.stopped.Cause.{Cause}
 use Rattle.mime_lookup.specs.declared.stopped.Cause.TheVariants as cause
 use Rattle.mime_lookup.proofs.StopLemmas.Openings.{header_opens}
 use Rattle.mime_view.specs.Opening.{IsOpenFault, Opens}
@@ -80,20 +79,6 @@ cause_of-open_fault c Spent is = refl
 cause_of-open_fault c TooDeep is = refl
 cause_of-open_fault c OutOfMemory is = absurd is
 
--- The fault that opening gives is passed on, and there is no other.
-module _ (c : List ℕ) (given e : CacheFault) (is : IsOpenFault c given) (other : IsOpenFault c e) where
-  -- the fault that is given is the header's
-  same_fault : given ≡ e
-  same_fault = one_fault c given e (one_of_three c given is) (one_of_three c e other)
-
-  -- as itself
-  pub refused_with : {X : Type 0} (result : Result X CacheFault) → IsErrAnd result (λ fault. fault ≡ given) →
-      IsErrAnd result (λ fault. fault ≡ e)
-  refused_with (Ok x) passed = absurd passed
-  refused_with (Err fault) passed = passed ∙ same_fault
-
-  -- as a cause
-  pub refused_for : {X : Type 0} (result : Result X Cause) → IsErrAnd result (λ stop. stop ≡ cause_of given) →
-      IsErrAnd result (λ stop. stop ≡ cause.Cache e)
-  refused_for (Ok x) passed = absurd passed
-  refused_for (Err stop) passed = passed ∙ ap cause_of same_fault ∙ cause_of-open_fault c e other
+-- the fault that opening gives is the header's, of which there is no other
+pub same_fault : (c : List ℕ) (given e : CacheFault) → IsOpenFault c given → IsOpenFault c e → given ≡ e
+same_fault c given e is other = one_fault c given e (one_of_three c given is) (one_of_three c e other)

@@ -17,15 +17,16 @@ ghost use Rattle.mime_lookup.specs.Spelling.{SpellsPairs};
 ghost use Rattle.mime_lookup.specs.StepFaults.{IsAliasFault, IsSearchFault};
 ghost use Rattle.mime_view.specs.Spending.{Looks, Spends};
 
+use crate::cached::indexed_cache::IndexedCache;
 use crate::queue::Queue;
 use crate::subclass::is_by_itself;
-use mime_view::{Cache, CacheFault, Marks, Spending};
+use mime_view::{CacheFault, Marks, Spending};
 use std::alloc::Global;
 
 /// The first of the types that is the base or a subclass of it, else the default.
 pub fn first_of<'a>(
     alloc: Global,
-    cache: &Cache<'a>,
+    indexed: &IndexedCache<'a>,
     kinds: &[&'a [u8]],
     default: &'a [u8],
     base: &[u8],
@@ -34,20 +35,20 @@ pub fn first_of<'a>(
     // Any text of the cache and any type name is this short.
     requires base { length base.now ≤ 255 }
     // Where the pairs stand, it is the first of the types that is the base or a subclass of it, else the default.
-    ensures answer { (b : PlainDatabase) → SpellsPairs cache.now b → IfOk result
+    ensures answer { (b : PlainDatabase) → SpellsPairs indexed.now b → IfOk result
         (λ kind. IsFirst (pairs_of b) base.now default.entry.now (kinds_of kinds.now) kind.now) }
     // It is the default, or one of the types.
     ensures one { IfOk result (λ kind. Contains (default.entry.now ∷ kinds_of kinds.now) kind.now) }
     // Where the pairs stand and a record is left for each parent, only memory is refused.
-    ensures need { NeedsParents cache.now spending.old.budget result }
+    ensures need { NeedsParents indexed.now spending.old.budget result }
     // The parents of a type, an alias step or memory shows the fault.
-    ensures fault { IfErr result (IsSearchFault cache.now spending.new.budget) }
+    ensures fault { IfErr result (IsSearchFault indexed.now spending.new.budget) }
     // It costs 29 nodes for each type, and 59 for each record that it takes.
     ensures cost { Costs search_cost 0 (29 * length kinds.now) spending.old spending.new }
 {
     let mut marks = Marks::new(alloc);
     for kind in kinds {
-        if leads_to(alloc, cache, &mut marks, *kind, base, spending)? {
+        if leads_to(alloc, indexed, &mut marks, *kind, base, spending)? {
             return Ok(*kind);
         }
     }
@@ -55,22 +56,22 @@ pub fn first_of<'a>(
 }
 
 /// Whether a type is the base or a subclass of it, unless a marked type is.
-pub fn leads_to<'a>(
+pub fn leads_to<'k, 'a: 'k>(
     alloc: Global,
-    cache: &Cache<'a>,
+    indexed: &IndexedCache<'a>,
     marks: &mut Marks,
-    kind: &'a [u8],
+    kind: &'k [u8],
     base: &[u8],
     spending: &mut Spending,
 ) -> Result<bool, CacheFault>
     // Any text of the cache and any type name is this short.
     requires base { length base.now ≤ 255 }
     // Where the pairs stand, it says whether the type leads to the base, unless a marked type does.
-    ensures answer { AnswersMarked cache.now kind.entry.now base.now marks.old marks.new result }
+    ensures answer { AnswersMarked indexed.now kind.entry.now base.now marks.old marks.new result }
     // There no more records are taken than there are pairs of the types that it marks.
-    ensures takes { TakesMarked cache.now marks.old marks.new spending.old spending.new result }
+    ensures takes { TakesMarked indexed.now marks.old marks.new spending.old spending.new result }
     // The parents of a type, an alias step or memory shows the fault.
-    ensures fault { IfErr result (IsSearchFault cache.now spending.new.budget) }
+    ensures fault { IfErr result (IsSearchFault indexed.now spending.new.budget) }
     // It costs 29 nodes, and 59 for each record that it takes.
     ensures cost { Costs search_cost 0 29 spending.old spending.new }
 {
@@ -80,35 +81,35 @@ pub fn leads_to<'a>(
         if is_by_itself(here, base, &mut spending.meter) {
             return Ok(true);
         }
-        expand(alloc, cache, marks, here, &mut queue, spending)?;
+        expand(alloc, indexed, marks, here, &mut queue, spending)?;
     }
     Ok(false)
 }
 
 /// Puts what is above a type at the end of the queue, each after one alias step, and marks its entry, unless
 /// it is marked.
-fn expand<'a>(
+fn expand<'k, 'a: 'k>(
     alloc: Global,
-    cache: &Cache<'a>,
+    indexed: &IndexedCache<'a>,
     marks: &mut Marks,
     kind: &[u8],
-    queue: &mut Queue<'a>,
+    queue: &mut Queue<'k>,
     spending: &mut Spending,
 ) -> Result<(), CacheFault>
     // Where the pairs stand, all above the type comes to the queue, or nothing if it was marked.
-    ensures expanded { (b : PlainDatabase) → SpellsPairs cache.now b → OnOk result (Expanded (pairs_of b) kind.now
-        (marked_by cache.now marks.old) (marked_by cache.now marks.new) queue.old queue.new) }
+    ensures expanded { (b : PlainDatabase) → SpellsPairs indexed.now b → OnOk result (Expanded (pairs_of b) kind.now
+        (marked_by indexed.now marks.old) (marked_by indexed.now marks.new) queue.old queue.new) }
     // There no more records are taken than there are pairs of the type, once it is marked.
-    ensures takes { TakesMarked cache.now marks.old marks.new spending.old spending.new result }
+    ensures takes { TakesMarked indexed.now marks.old marks.new spending.old spending.new result }
     // The parents of a type, an alias step or memory shows the fault.
-    ensures fault { IfErr result (IsSearchFault cache.now spending.new.budget) }
+    ensures fault { IfErr result (IsSearchFault indexed.now spending.new.budget) }
     // Each type that comes to the queue took a record.
     ensures falls { OnOk result
         (length queue.new + spending.new.budget.records ≡ length queue.old + spending.old.budget.records) }
     // It costs 29 nodes, and for each record its own and an alias step.
     ensures cost { Spends expansion_price 29 (256 * 27) spending.old spending.new }
 {
-    let found = cache.parents_of(
+    let found = indexed.cache().parents_of(
         alloc,
         kind,
         marks,
@@ -118,22 +119,22 @@ fn expand<'a>(
     let Some(parents) = found else {
         return Ok(());
     };
-    push_unaliased(cache, parents.types.as_slice(), queue, spending)
+    push_unaliased(indexed, parents.types.as_slice(), queue, spending)
 }
 
 /// Puts types at the end of the queue, each after one alias step.
-fn push_unaliased<'a>(
-    cache: &Cache<'a>,
+fn push_unaliased<'k, 'a: 'k>(
+    indexed: &IndexedCache<'a>,
     kinds: &[&'a [u8]],
-    queue: &mut Queue<'a>,
+    queue: &mut Queue<'k>,
     spending: &mut Spending,
 ) -> Result<(), CacheFault>
     // Where the aliases stand, the resolved types come to the end of the queue, unless memory is refused.
-    ensures queue { (b : PlainDatabase) → SpellsPairs cache.now b → MatchResult result
+    ensures queue { (b : PlainDatabase) → SpellsPairs indexed.now b → MatchResult result
         (λ _. queue.new ≡ queue.old ++ map (resolved b.aliases) (kinds_of kinds.now))
         (λ e. e ≡ CacheFault.OutOfMemory) }
     // An alias step or memory shows the fault.
-    ensures fault { IfErr result (λ e. IsAliasFault cache.now e ⊎ (e ≡ CacheFault.OutOfMemory)) }
+    ensures fault { IfErr result (λ e. IsAliasFault indexed.now e ⊎ (e ≡ CacheFault.OutOfMemory)) }
     // The queue has one more for each type.
     ensures longer { OnOk result (length queue.new ≡ length queue.old + length kinds.now) }
     // Nothing is taken of the budget.
@@ -142,7 +143,7 @@ fn push_unaliased<'a>(
     ensures cost { Looks (29 * length kinds.now) (256 * 29 * length kinds.now) spending.old.meter spending.new.meter }
 {
     for kind in kinds {
-        let name = cache.unalias(*kind, &mut spending.meter, &mut spending.budget)?;
+        let name = indexed.unalias(*kind, &mut spending.meter, &mut spending.budget)?;
         queue.push_back(name)?;
     }
     Ok(())

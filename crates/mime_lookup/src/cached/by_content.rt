@@ -1,22 +1,20 @@
 //! The second half of a lookup: what a front of the content gives, after the name ("Recommended checking order").
 
-ghost use Rattle.std.specs.Prelude.{◌≡◌, ◌+◌, ◌*◌, ◌<◌, ◌≤◌, if◌then◌else◌, All, IfErr, IfOk, None, OnOk, length, take, ⊤};
+ghost use Rattle.std.specs.Prelude.{◌≡◌, ◌+◌, ◌<◌, ◌≤◌, if◌then◌else◌, All, IfErr, IfOk, None, OnOk, length, take, ⊤};
 ghost use Rattle.mime_base.specs.Database.{PlainDatabase, pairs_of};
 ghost use Rattle.mime_lookup.specs.Affords.{rule_records};
 ghost use Rattle.mime_lookup.specs.Ancestry.{kinds_of};
-ghost use Rattle.mime_lookup.specs.Bounds.{near_max};
-ghost use Rattle.mime_lookup.specs.Cached.{ChoosesFound, IsCacheText, IsFinding, IsKind, plain_finding};
+ghost use Rattle.mime_lookup.specs.Cached.{IsCacheText, IsFinding, IsKind, plain_finding};
 ghost use Rattle.mime_lookup.specs.CheckingOrder.{Chooses, GlobsDecide};
 ghost use Rattle.mime_lookup.specs.Choice.{kept};
-ghost use Rattle.mime_lookup.specs.Costs.{Costs, CostsSearch, LooksAt, record_cost};
-ghost use Rattle.mime_lookup.specs.Searching.{search_cost};
+ghost use Rattle.mime_lookup.specs.Choosing.{ChoosesKind, CostsChoice, CostsGlobs};
+ghost use Rattle.mime_lookup.specs.Costs.{Costs, record_cost};
 ghost use Rattle.mime_lookup.specs.Finding.{is_by_magic};
-ghost use Rattle.mime_lookup.specs.Halves.{AffordsRest, AreTexts, Leaves, bytes_of, front_length, order_of, owed_near, owed_nodes};
+ghost use Rattle.mime_lookup.specs.Halves.{AffordsRest, AreCandidateTexts, Leaves, bytes_of, front_length, order_left, owed_near, owed_nodes};
 ghost use Rattle.mime_lookup.specs.Spelling.{SpellsGlobs};
 ghost use Rattle.mime_lookup.specs.StepFaults.{IsChoiceFault, IsRestFault, IsSearchFault};
 ghost use Rattle.mime_lookup.specs.Steps.{StopsUnread, Suffices, SufficesForChoice};
 ghost use Rattle.mime_lookup.specs.declared.order.Order.TheVariants.{GlobsFirst};
-ghost use Rattle.mime_view.specs.Hits.{near};
 
 use crate::cached::by_name::Candidates;
 use crate::cached::indexed_cache::IndexedCache;
@@ -38,24 +36,24 @@ pub fn by_content<'a>(
     spending: &mut Spending,
 ) -> Result<&'a [u8], CacheFault>
     // The types are texts of the cache.
-    requires texts { AreTexts indexed.now candidates }
+    requires texts { AreCandidateTexts indexed.now candidates }
     // Where enough of a database stands that leaves these candidates, the order gives this type to the name and the front.
     ensures chosen { (b : PlainDatabase)
-        → Suffices indexed.now question.now.name.now (order_of candidates.entry) (bytes_of front.entry ≡ None) b
+        → Suffices indexed.now question.now.name.now (order_left candidates.entry) (bytes_of front.entry ≡ None) b
         → Leaves b question.now.name.now candidates.entry → IfOk result (λ kind. Chooses b question.now.name.now
-        (bytes_of front.entry) question.now.host (order_of candidates.entry) kind.now) }
+        (bytes_of front.entry) question.now.host (order_left candidates.entry) kind.now) }
     // It is a text of the cache, or fixed.
     ensures kind { IfOk result (λ kind. IsKind indexed.now kind.now) }
     // Where enough stands and what is left to be taken is there, only memory is refused.
-    ensures stops { StopsUnread indexed.now (bytes_of front.entry ≡ None) spending.new.budget
-        (λ b. Suffices indexed.now question.now.name.now (order_of candidates.entry) (bytes_of front.entry ≡ None) b
+    ensures stops { StopsUnread indexed.now (bytes_of front.entry ≡ None) spending.old spending.new
+        (λ b. Suffices indexed.now question.now.name.now (order_left candidates.entry) (bytes_of front.entry ≡ None) b
         × Leaves b question.now.name.now candidates.entry × AffordsRest b candidates.entry spending.old.budget) result }
     // The front, the types of the name or the choice among them shows the fault.
     ensures fault { IfErr result (IsRestFault indexed.now question.now.name.now (bytes_of front.entry)
         question.now.host spending.new.budget) }
     // Where the glob rules stand and decide, the nodes are fewer than the name left.
     ensures near { (b : PlainDatabase) → SpellsGlobs indexed.now b → Leaves b question.now.name.now candidates.entry
-        → GlobsDecide b question.now.name.now (order_of candidates.entry) (bytes_of front.entry ≡ None) → OnOk result
+        → GlobsDecide b question.now.name.now (order_left candidates.entry) (bytes_of front.entry ≡ None) → OnOk result
         (spending.new.meter.nodes < spending.old.meter.nodes + owed_near b question.now.name.now candidates.entry) }
     // Whatever the bytes are, it costs what the name left, and 30 nodes for magic and an alias step.
     ensures cost { Costs (record_cost (length question.now.name.now)) (front_length (bytes_of front.entry) + 1)
@@ -120,15 +118,12 @@ fn by_globs<'a>(
 ) -> Result<&'a [u8], CacheFault>
     requires finding { IsFinding indexed.now finding }
     requires short { length name.now ≤ 4096 }
-    ensures chosen { (b : PlainDatabase) → Suffices indexed.now name.now GlobsFirst ⊤ b
-        → ChoosesFound b (kept (pairs_of b) b.rules name.now) finding.entry result }
-    ensures kind { IfOk result (λ kind. IsKind indexed.now kind.now) }
-    ensures stops { StopsUnread indexed.now ⊤ spending.new.budget (λ b. Suffices indexed.now name.now GlobsFirst ⊤ b
+    ensures answers { ChoosesKind indexed.now (Suffices indexed.now name.now GlobsFirst ⊤)
+        (λ b. kept (pairs_of b) b.rules name.now) finding.entry result }
+    ensures stops { StopsUnread indexed.now ⊤ spending.old spending.new (λ b. Suffices indexed.now name.now GlobsFirst ⊤ b
         × (rule_records b + length b.parents ≤ spending.old.budget.records)) result }
     ensures fault { IfErr result (IsChoiceFault indexed.now name.now spending.new.budget) }
-    ensures near { (b : PlainDatabase) → SpellsGlobs indexed.now b → GlobsDecide b name.now GlobsFirst ⊤ → OnOk result
-        (spending.new.meter.nodes < spending.old.meter.nodes + near_max (length name.now) (near name.now b.rules)) }
-    ensures cost { CostsSearch (length name.now) 0 29 spending.old spending.new }
+    ensures costs { CostsGlobs indexed.now name.now spending.old spending.new result }
 {
     let types = indexed.types_of(alloc, name, Which::Kept, true, spending)?;
     match types {
@@ -150,14 +145,12 @@ fn choose<'a>(
 ) -> Result<&'a [u8], CacheFault>
     requires finding { IsFinding indexed.now finding }
     requires texts { All (IsCacheText indexed.now) (kinds_of kinds.now) }
-    ensures chosen { (b : PlainDatabase) → SufficesForChoice indexed.now (kinds_of kinds.now) b
-        → ChoosesFound b (kinds_of kinds.now) finding.entry result }
-    ensures kind { IfOk result (λ kind. IsKind indexed.now kind.now) }
-    ensures stops { StopsUnread indexed.now ⊤ spending.new.budget (λ b. SufficesForChoice indexed.now (kinds_of kinds.now) b
+    ensures answers { ChoosesKind indexed.now (SufficesForChoice indexed.now (kinds_of kinds.now))
+        (λ _. kinds_of kinds.now) finding.entry result }
+    ensures stops { StopsUnread indexed.now ⊤ spending.old spending.new (λ b. SufficesForChoice indexed.now (kinds_of kinds.now) b
         × (length b.parents ≤ spending.old.budget.records)) result }
     ensures fault { IfErr result (IsSearchFault indexed.now spending.new.budget) }
-    ensures alone { length (kinds_of kinds.now) ≤ 1 → LooksAt 29 spending.old spending.new }
-    ensures cost { Costs search_cost 0 (29 + 29 * length (kinds_of kinds.now)) spending.old spending.new }
+    ensures costs { CostsChoice (length (kinds_of kinds.now)) spending.old spending.new }
 {
     let base = unalias(indexed, finding, spending)?;
     if kinds.is_empty() {

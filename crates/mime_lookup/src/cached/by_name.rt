@@ -53,7 +53,7 @@ pub fn by_name<'a>(
     // Its types are texts of the cache.
     ensures texts { IfOk result (AreTextsByName indexed.now) }
     // Where the glob rules stand and each record that they may take is left, only memory is refused.
-    ensures stops { StopsUnread indexed.now ⊤ spending.new.budget
+    ensures stops { StopsUnread indexed.now ⊤ spending.old spending.new
         (λ b. SpellsGlobs indexed.now b × (rule_records b ≤ spending.old.budget.records)) result }
     // The glob rules or an alias step show the fault.
     ensures fault { IfErr result (IsGlobsFault indexed.now question.now.name.now spending.new.budget) }

@@ -1,22 +1,21 @@
 //! A lookup of a name alone, for those who read contents themselves ("Recommended checking order").
 
-ghost use Rattle.std.specs.Prelude.{◌≡◌, ◌+◌, ◌<◌, ◌≤◌, max, length, IfErr, IfOk, IsErrAnd, OnOk, ⊤};
+ghost use Rattle.std.specs.Prelude.{◌≡◌, ◌+◌, ◌<◌, max, length, IfErr, IfOk, OnOk, ⊤};
 ghost use Rattle.mime_base.specs.Cache.Bytes.{field};
 ghost use Rattle.mime_base.specs.Database.{PlainDatabase};
 ghost use Rattle.mime_lookup.specs.Affords.{Affords};
-ghost use Rattle.mime_lookup.specs.Bounds.{KeepsBounds, stated_extent};
+ghost use Rattle.mime_lookup.specs.Bounds.{stated_extent};
 ghost use Rattle.mime_lookup.specs.Cached.{cause_of};
 ghost use Rattle.mime_lookup.specs.CheckingOrder.{read_limit};
 ghost use Rattle.mime_lookup.specs.Costs.{CostsSearch, LooksAt};
-ghost use Rattle.mime_lookup.specs.NameAlone.{IsNameLookUp};
+ghost use Rattle.mime_lookup.specs.LookUps.{ShowsFault};
+ghost use Rattle.mime_lookup.specs.NameAlone.{CostsName, IsNameLookUp, told_name};
 ghost use Rattle.mime_lookup.specs.Question.{IsDecided, NamesQuestion, SufficesUnread, extent_asked, near_most};
 ghost use Rattle.mime_lookup.specs.Spelling.{SpellsGlobs, SpellsMagic};
 ghost use Rattle.mime_lookup.specs.Spent.{UsesUp};
 ghost use Rattle.mime_lookup.specs.StepFaults.{IsMagicHeadFault, IsNameFault};
 ghost use Rattle.mime_lookup.specs.Steps.{IsPacked, Stops, StopsUnread};
-ghost use Rattle.mime_view.specs.Hits.{near};
 ghost use Rattle.mime_view.specs.Lists.{LiesHead};
-ghost use Rattle.mime_view.specs.Opening.{IsOpenFault, Opens};
 
 use crate::answer::NameAnswer;
 use crate::cached::by_content::by_content;
@@ -61,18 +60,8 @@ pub fn look_up_name<'a>(
     }
     let host = Host::Little;
     let question = Question { name, host, order };
-    match open_and_ask(alloc, cache, &question, &mut meter) {
-        Ok((kind, wanted)) => Ok(NameAnswer {
-            kind,
-            wanted,
-            meter,
-        }),
-        Err(fault) => Err(Stopped {
-            cause: Cause::from(fault),
-            read: 0,
-            meter,
-        }),
-    }
+    let found = open_and_ask(alloc, cache, &question, &mut meter);
+    told(found, meter)
 }
 
 /// [`look_up_name`] over a cache that was opened once, for many names: by the index of what was read back of it, and by a walk of the rest.
@@ -96,7 +85,20 @@ pub fn look_up_name_again<'a>(
     meter.add_node();
     let host = Host::Little;
     let question = Question { name, host, order };
-    match ask_opened(alloc, indexed, &question, &mut meter) {
+    let found = ask_opened(alloc, indexed, &question, &mut meter);
+    told(found, meter)
+}
+
+/// What was found, or the cause, with what it took.
+// Part of each of its two callers.
+#[inline(always)]
+fn told<'a>(
+    found: Result<(&'a [u8], u64), CacheFault>,
+    meter: Meter,
+) -> Result<NameAnswer<'a>, Stopped>
+    ensures { result ≡ told_name found.entry meter }
+{
+    match found {
         Ok((kind, wanted)) => Ok(NameAnswer {
             kind,
             wanted,
@@ -119,15 +121,10 @@ fn open_and_ask<'a>(
 ) -> Result<(&'a [u8], u64), CacheFault>
     requires fresh { meter.old ≡ record { nodes = 0; bytes = 0 } }
     ensures answers { IfOk result (λ found. NamesQuestion cache.entry question.now found.0.now found.1) }
-    ensures refused { (e : CacheFault) → IsOpenFault cache.entry e → IsErrAnd result (λ fault. fault ≡ e) }
-    ensures opened { OnOk result (Opens cache.entry) }
+    ensures faults { ShowsFault (λ e. e) cache.entry (IsNameFault cache.entry question.now.name.now) result }
     ensures stops { IfErr result (λ e. Stops (UsesUp cache.entry ⊤ meter.new.nodes)
         (λ b. SufficesUnread cache.entry question.now b × IsPacked cache.entry b) (λ _. ⊥) (cause_of e)) }
-    ensures fault { IfErr result (IsNameFault cache.entry question.now.name.now) }
-    ensures bounds { KeepsBounds (length question.now.name.now) cache.entry 0 meter.new }
-    ensures counted { OnOk result (1 ≤ meter.new.nodes) }
-    ensures near { (b : PlainDatabase) → SpellsGlobs cache.entry b → IsDecided b question.now ⊤
-        → OnOk result (meter.new.nodes ≤ near_most b question.now + extent_asked b question.now) }
+    ensures costs { CostsName cache.entry question.now.name.now question.now.order meter.new result }
 {
     let indexed = IndexedCache::open(cache, meter)?;
     ask_opened(alloc, &indexed, question, meter)
@@ -144,14 +141,10 @@ fn ask_opened<'a>(
 ) -> Result<(&'a [u8], u64), CacheFault>
     requires header { meter.old ≡ record { nodes = 1; bytes = 0 } }
     ensures answers { IfOk result (λ found. NamesQuestion indexed.now question.now found.0.now found.1) }
-    ensures opens { Opens indexed.now }
+    ensures faults { ShowsFault (λ e. e) indexed.now (IsNameFault indexed.now question.now.name.now) result }
     ensures stops { IfErr result (λ e. Stops (UsesUp indexed.now ⊤ meter.new.nodes)
         (λ b. SufficesUnread indexed.now question.now b × IsPacked indexed.now b) (λ _. ⊥) (cause_of e)) }
-    ensures fault { IfErr result (IsNameFault indexed.now question.now.name.now) }
-    ensures bounds { KeepsBounds (length question.now.name.now) indexed.now 0 meter.new }
-    ensures counted { 1 ≤ meter.new.nodes }
-    ensures near { (b : PlainDatabase) → SpellsGlobs indexed.now b → IsDecided b question.now ⊤
-        → OnOk result (meter.new.nodes ≤ near_most b question.now + extent_asked b question.now) }
+    ensures costs { CostsName indexed.now question.now.name.now question.now.order meter.new result }
 {
     let mut spending = Spending {
         meter: *meter,
@@ -172,7 +165,7 @@ fn ask<'a>(
     spending: &mut Spending,
 ) -> Result<(&'a [u8], u64), CacheFault>
     ensures answers { IfOk result (λ found. NamesQuestion indexed.now question.now found.0.now found.1) }
-    ensures stops { StopsUnread indexed.now ⊤ spending.new.budget
+    ensures stops { StopsUnread indexed.now ⊤ spending.old spending.new
         (λ b. SufficesUnread indexed.now question.now b × Affords b spending.old.budget) result }
     ensures fault { IfErr result (IsNameFault indexed.now question.now.name.now) }
     ensures near { (b : PlainDatabase) → SpellsGlobs indexed.now b → IsDecided b question.now ⊤ → OnOk result

@@ -1,18 +1,16 @@
 //! What a content is sniffed as by itself ("Recommended checking order").
 
-ghost use Rattle.std.specs.Prelude.{◌≡◌, ◌⊎◌, ◌+◌, ◌<◌, IfErr, IfOk, IsErrAnd, OnOk, length, max, take};
-ghost use Rattle.mime_base.specs.Cache.Bytes.{field};
-ghost use Rattle.mime_lookup.specs.Bounds.{stated_extent};
-ghost use Rattle.mime_lookup.specs.Cached.{IsKind, cause_of, plain_finding};
-ghost use Rattle.mime_lookup.specs.ContentAlone.{IsSniffing, LooksWithin, SniffsAs, looked_at};
+ghost use Rattle.std.specs.Prelude.{◌≡◌, ◌+◌, IfErr, length, max, take};
+ghost use Rattle.mime_lookup.specs.Bounds.{KeepsBounds, stated_extent};
+ghost use Rattle.mime_lookup.specs.Cached.{cause_of, plain_finding};
+ghost use Rattle.mime_lookup.specs.ContentAlone.{IsSniffing, LooksAtFront, SniffsAs, told_content};
 ghost use Rattle.mime_lookup.specs.Costs.{Costs};
 ghost use Rattle.mime_lookup.specs.Finding.{priority_of};
+ghost use Rattle.mime_lookup.specs.LookUps.{Begins, ShowsFault};
 ghost use Rattle.mime_lookup.specs.Spelling.{SpellsMagic};
 ghost use Rattle.mime_lookup.specs.Spent.{UsesUp};
 ghost use Rattle.mime_lookup.specs.StepFaults.{IsSniffStepFault, IsSniffingFault};
 ghost use Rattle.mime_lookup.specs.Steps.{IsPacked, Stops, StopsSniffing};
-ghost use Rattle.mime_view.specs.Lists.{LiesHead};
-ghost use Rattle.mime_view.specs.Opening.{IsOpenFault, Opens};
 
 use crate::cached::by_name_alone::front_limit;
 use crate::cached::indexed_cache::IndexedCache;
@@ -54,19 +52,8 @@ pub fn sniff_alone<'a>(
 {
     let mut read = 0;
     let mut meter = Meter::new();
-    match open_and_sniff(cache, content, host, &mut read, &mut meter) {
-        Ok((kind, priority)) => Ok(SniffedContent {
-            kind,
-            priority,
-            read,
-            meter,
-        }),
-        Err(fault) => Err(Stopped {
-            cause: Cause::from(fault),
-            read,
-            meter,
-        }),
-    }
+    let found = open_and_sniff(cache, content, host, &mut read, &mut meter);
+    told(found, read, meter)
 }
 
 /// [`sniff_alone`] over a cache that was opened once, for many contents: by the index of what was read back of it, and by a walk of the
@@ -82,7 +69,21 @@ pub fn sniff_again<'a>(
     let mut read = 0;
     let mut meter = Meter::new();
     meter.add_node();
-    match sniff_metered(indexed, content, host, &mut read, &mut meter) {
+    let found = sniff_metered(indexed, content, host, &mut read, &mut meter);
+    told(found, read, meter)
+}
+
+/// What was found, or the cause, with what it took.
+// Part of each of its two callers.
+#[inline(always)]
+fn told<'a>(
+    found: Result<(&'a [u8], Option<u32>), CacheFault>,
+    read: u64,
+    meter: Meter,
+) -> Result<SniffedContent<'a>, Stopped>
+    ensures { result ≡ told_content found.entry read meter }
+{
+    match found {
         Ok((kind, priority)) => Ok(SniffedContent {
             kind,
             priority,
@@ -105,17 +106,13 @@ fn open_and_sniff<'a>(
     read: &mut u64,
     meter: &mut Meter,
 ) -> Result<(&'a [u8], Option<u32>), CacheFault>
-    requires none { read.old ≡ 0 }
-    requires fresh { meter.old ≡ record { nodes = 0; bytes = 0 } }
-    ensures answer { SniffsAs cache.entry content.now host result }
-    ensures kind { IfOk result (λ found. IsKind cache.entry found.0.now) }
-    ensures refused { (e : CacheFault) → IsOpenFault cache.entry e → IsErrAnd result (λ fault. fault ≡ e) }
-    ensures opened { OnOk result (Opens cache.entry) }
+    requires begins { Begins 0 read.old meter.old }
+    ensures answers { SniffsAs cache.entry content.now host result }
+    ensures faults { ShowsFault (λ e. e) cache.entry (IsSniffingFault cache.entry content.now host) result }
     ensures stops { IfErr result (λ e. Stops (UsesUp cache.entry ⊥ meter.new.nodes)
         (λ b. SpellsMagic cache.entry b × IsPacked cache.entry b) (λ _. ⊥) (cause_of e)) }
-    ensures fault { IfErr result (IsSniffingFault cache.entry content.now host) }
-    ensures read { OnOk result (read.new ≡ looked_at cache.entry content.now) }
-    ensures within { LooksWithin cache.entry content.now read.new meter.new }
+    ensures looks { LooksAtFront cache.entry content.now read.new result }
+    ensures bounds { KeepsBounds 0 cache.entry read.new meter.new }
 {
     let indexed = IndexedCache::open(cache, meter)?;
     sniff_metered(&indexed, content, host, read, meter)
@@ -131,16 +128,13 @@ fn sniff_metered<'a>(
     read: &mut u64,
     meter: &mut Meter,
 ) -> Result<(&'a [u8], Option<u32>), CacheFault>
-    requires none { read.old ≡ 0 }
-    requires header { meter.old ≡ record { nodes = 1; bytes = 0 } }
-    ensures answer { SniffsAs indexed.now content.now host result }
-    ensures kind { IfOk result (λ found. IsKind indexed.now found.0.now) }
-    ensures opens { Opens indexed.now }
+    requires begins { Begins 1 read.old meter.old }
+    ensures answers { SniffsAs indexed.now content.now host result }
+    ensures faults { ShowsFault (λ e. e) indexed.now (IsSniffingFault indexed.now content.now host) result }
     ensures stops { IfErr result (λ e. Stops (UsesUp indexed.now ⊥ meter.new.nodes)
         (λ b. SpellsMagic indexed.now b × IsPacked indexed.now b) (λ _. ⊥) (cause_of e)) }
-    ensures fault { IfErr result (IsSniffingFault indexed.now content.now host) }
-    ensures read { OnOk result (read.new ≡ looked_at indexed.now content.now) }
-    ensures within { LooksWithin indexed.now content.now read.new meter.new }
+    ensures looks { LooksAtFront indexed.now content.now read.new result }
+    ensures bounds { KeepsBounds 0 indexed.now read.new meter.new }
 {
     let mut spending = Spending {
         meter: *meter,
@@ -160,14 +154,11 @@ fn sniff_opened<'a>(
     spending: &mut Spending,
 ) -> Result<(&'a [u8], Option<u32>), CacheFault>
     requires none { read.old ≡ 0 }
-    ensures answer { SniffsAs indexed.now content.now host result }
-    ensures kind { IfOk result (λ found. IsKind indexed.now found.0.now) }
+    ensures answers { SniffsAs indexed.now content.now host result }
     ensures stops { StopsSniffing indexed.now ⊥ (SpellsMagic indexed.now) spending.old spending.new result }
     ensures fault { IfErr result (IsSniffStepFault indexed.now (take (max 128 (stated_extent indexed.now)) content.now)
         host spending.new.budget) }
-    ensures read { OnOk result (read.new ≡ looked_at indexed.now content.now) }
-    ensures looked { (read.new ≡ 0) ⊎ (read.new ≡ looked_at indexed.now content.now) }
-    ensures head { 0 < read.new → LiesHead indexed.now (field indexed.now 0 6) 12 }
+    ensures looks { LooksAtFront indexed.now content.now read.new result }
     ensures cost { Costs 256 (read.new + 1) 31 spending.old spending.new }
 {
     let limit = front_limit(indexed, spending)?;
@@ -194,8 +185,7 @@ fn sniff_whole<'a>(
     host: Host,
     spending: &mut Spending,
 ) -> Result<(&'a [u8], Option<u32>), CacheFault>
-    ensures answer { SniffsAs indexed.now front.now host result }
-    ensures kind { IfOk result (λ found. IsKind indexed.now found.0.now) }
+    ensures answers { SniffsAs indexed.now front.now host result }
     ensures stops { StopsSniffing indexed.now ⊥ (SpellsMagic indexed.now) spending.old spending.new result }
     ensures fault { IfErr result (IsSniffStepFault indexed.now front.now host spending.new.budget) }
     ensures cost { Costs 256 (length front.now + 1) 30 spending.old spending.new }

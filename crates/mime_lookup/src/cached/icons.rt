@@ -8,12 +8,12 @@ ghost use Rattle.mime_lookup.specs.Icons.{AnswersIcons, HasIconLists, plain_icon
 ghost use Rattle.mime_lookup.specs.Icons.{before_slash, generic_of_media, hyphen_for_slash, name_or, with_hyphens};
 ghost use Rattle.mime_lookup.specs.Spelling.{SpellsIcons};
 ghost use Rattle.mime_lookup.specs.StepFaults.{IsIconFault};
-ghost use Rattle.mime_view.specs.Opening.{Opens};
 ghost use Rattle.mime_view.specs.Spending.{Looks};
 
+use crate::cached::indexed_cache::IndexedCache;
 use crate::stopped::{Cause, Stopped};
 use mime_base::{Counted, Meter, OutOfMemory, TypeName};
-use mime_view::{Budget, Cache, CacheFault};
+use mime_view::CacheFault;
 use std::alloc::Global;
 
 /// The icons of a type, and what it took to find them.
@@ -61,23 +61,25 @@ pub fn icon_of<'a>(alloc: Global, cache: Counted<'a>, kind: &'a TypeName) -> Res
 }
 
 /// [`icon_of`] over a cache that was opened once, for many types, given as their bytes.
-pub fn icon_again<'a>(alloc: Global, cache: &Cache<'a>, kind: &'a [u8]) -> Result<Icons, Stopped>
-    // The cache did open.
-    requires opens { Opens cache.now }
+pub fn icon_again<'k, 'a: 'k>(
+    alloc: Global,
+    indexed: &IndexedCache<'a>,
+    kind: &'k [u8],
+) -> Result<Icons, Stopped>
     // Where the aliases and both lists of icons stand, these are the icons of the type.
-    ensures answer { AnswersIcons plain_icons_of cache.now kind.entry.now result }
+    ensures answer { AnswersIcons plain_icons_of indexed.now kind.entry.now result }
     // For an answer all three lists lie in the cache.
-    ensures lists { OnOk result (HasIconLists cache.now) }
+    ensures lists { OnOk result (HasIconLists indexed.now) }
     // Why it stops: where the aliases and both lists of icons of a database stand, only for memory.
-    ensures stops { StopsAsking (λ stopped. stopped.cause) cache.now (IsIconFault cache.now) (SpellsIcons cache.now) result }
+    ensures stops { StopsAsking (λ stopped. stopped.cause) indexed.now (IsIconFault indexed.now) (SpellsIcons indexed.now) result }
     // No content is read.
     ensures read { IfErr result (λ stopped. stopped.read ≡ 0) }
     // Whatever the bytes are, the nodes and the bytes keep to the bounds of an empty name without content.
-    ensures bounds { KeepsAsking (λ icons. icons.meter) cache.now result }
+    ensures bounds { KeepsAsking (λ icons. icons.meter) indexed.now result }
 {
     let mut meter = Meter::new();
     meter.add_node();
-    match find_icons(alloc, cache, kind, &mut meter) {
+    match find_icons(alloc, indexed, kind, &mut meter) {
         Ok((icon, generic)) => Ok(Icons {
             icon,
             generic,
@@ -109,33 +111,32 @@ fn open_and_find<'a>(
     // It visits the header, and at most 29 records of each list, with a text for each.
     ensures cost { Looks 88 (256 * 87) meter.old meter.new }
 {
-    let cache = Cache::open(cache, meter)?;
-    find_icons(alloc, &cache, kind, meter)
+    let indexed = IndexedCache::open(cache, meter)?;
+    find_icons(alloc, &indexed, kind, meter)
 }
 
 /// The same over an opened cache.
 // Part of each of its two callers.
 #[inline(always)]
-fn find_icons<'a>(
+fn find_icons<'k, 'a: 'k>(
     alloc: Global,
-    cache: &Cache<'a>,
-    kind: &'a [u8],
+    indexed: &IndexedCache<'a>,
+    kind: &'k [u8],
     meter: &mut Meter,
 ) -> Result<(Vec<u8>, Vec<u8>), CacheFault>
-    // The cache did open.
-    requires opens { Opens cache.now }
     // Where the aliases and both lists of icons stand, these are the icons of the type.
     ensures answer { AnswersIcons (λ icons. record { icon = icons.0.items; generic = icons.1.items })
-        cache.now kind.entry.now result }
+        indexed.now kind.entry.now result }
     // For an answer all three lists lie in the cache.
-    ensures lists { OnOk result (HasIconLists cache.now) }
+    ensures lists { OnOk result (HasIconLists indexed.now) }
     // Why it stops: where the aliases and both lists of icons of a database stand, only for memory.
-    ensures stops { StopsAsking cause_of cache.now (IsIconFault cache.now) (SpellsIcons cache.now) result }
+    ensures stops { StopsAsking cause_of indexed.now (IsIconFault indexed.now) (SpellsIcons indexed.now) result }
     // It visits at most 29 records of each list, with a text for each.
     ensures cost { Looks 87 (256 * 87) meter.old meter.new }
 {
-    let mut budget = Budget::of(cache);
-    let kind = cache.unalias(kind, meter, &mut budget)?;
+    let mut budget = indexed.budget();
+    let kind = indexed.unalias(kind, meter, &mut budget)?;
+    let cache = indexed.cache();
     let icon = cache.icon(kind, meter, &mut budget)?;
     let generic = cache.generic_icon(kind, meter, &mut budget)?;
     let icon = icon_or_hyphens(alloc, icon, kind)?;

@@ -51,7 +51,7 @@ pub struct IndexedCache<'a> {
     counted: Counted<'a>,
     /// The cache.
     cache: Cache<'a>,
-    /// The glob rules, where they were read back, each with its type after one alias step.
+    /// The glob rules and the aliases, where they were read back.
     names: Option<Box<IndexedNames<'a>>>,
     /// The lines of magic, where they were read back.
     magic: Option<Box<MagicIndex<'a>>>,
@@ -81,6 +81,8 @@ impl<'a> IndexedCache<'a> {
         ensures counted { OnOk result (meter.new.nodes ≡ raised meter.old.nodes 1) }
         // Before a fault it is counted at most once.
         ensures nodes { meter.new.nodes ≤ meter.old.nodes + 1 }
+        // The count of records never falls.
+        ensures rises { meter.old.nodes ≤ meter.new.nodes }
         // It compares nothing.
         ensures bytes { meter.new.bytes ≡ meter.old.bytes }
     {
@@ -240,13 +242,15 @@ impl<'a> IndexedCache<'a> {
         Budget::of(&self.cache)
     }
 
-    /// The type that a name stands for, or the name, as [`Cache::unalias`] says.
-    pub fn unalias(
+    /// The type that a name stands for, or the name, as [`Cache::unalias`] says. Where names were read back, nothing is visited.
+    pub fn unalias<'k>(
         &self,
-        kind: &'a [u8],
+        kind: &'k [u8],
         meter: &mut Meter,
         budget: &mut Budget,
-    ) -> Result<&'a [u8], CacheFault>
+    ) -> Result<&'k [u8], CacheFault>
+    where
+        'a: 'k,
         // Where the alias list stands, it gives the type that the name stands for, or the name.
         ensures answer { (offsets : Offsets) (pairs : List (List ℕ × List ℕ)) → HeaderAt (Stands self.now) offsets →
             PairsAt (Stands self.now) offsets.aliases pairs → IsOkAnd result (λ name. name.now ≡ resolved pairs kind.now) }
@@ -257,7 +261,10 @@ impl<'a> IndexedCache<'a> {
         // It visits at most 29 records, and compares at most a text for each.
         ensures cost { Looks 29 (256 * 29) meter.old meter.new }
     {
-        self.cache.unalias(kind, meter, budget)
+        match &self.names {
+            Some(names) => Ok(names.unalias(kind)),
+            None => self.cache.unalias(kind, meter, budget),
+        }
     }
 
     /// How far into a content magic can look, as [`Cache::extent`] says.
@@ -302,6 +309,6 @@ impl<'a> IndexedCache<'a> {
         // It costs 29 nodes for each type, and 59 for each record that it takes.
         ensures cost { Costs search_cost 0 (29 * length kinds.now) spending.old spending.new }
     {
-        first_of(alloc, &self.cache, kinds, default, base, spending)
+        first_of(alloc, self, kinds, default, base, spending)
     }
 }

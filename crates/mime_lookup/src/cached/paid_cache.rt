@@ -8,7 +8,7 @@
 
 ghost use Rattle.std.specs.Prelude.{◌≡◌, ◌+◌, ◌≤◌, None, false, length, true, IfOk, MatchResult, OnOk};
 ghost use Rattle.mime_base.specs.Meter.{raised};
-ghost use Rattle.mime_lookup.specs.Paid.{OwesAll, is_due, less, magic_price, names_price, paid_by_content, paid_by_name};
+ghost use Rattle.mime_lookup.specs.Paid.{OwesAll, is_due, less, magic_due, names_price, paid_by_content, paid_by_name};
 ghost use Rattle.mime_view.specs.Opening.{IsOpenFault, Opens};
 
 use crate::cached::indexed_cache::IndexedCache;
@@ -87,7 +87,7 @@ impl<'a> PaidCache<'a> {
             → self.new ≡ record self.old { magic = None } }
         // That visits no more than was paid for it either.
         ensures magic_cost { is_due self.old.names ≡ false → is_due self.old.magic ≡ true
-            → meter.new.nodes ≤ meter.old.nodes + magic_price (length self.old.cache) }
+            → meter.new.nodes ≤ meter.old.nodes + magic_due (length self.old.cache) }
     {
         if is_due(self.names) {
             self.names = None;
@@ -135,7 +135,7 @@ impl<'a> PaidCache<'a> {
     fn read_magic(&mut self, alloc: Global, meter: &mut Meter)
         ensures same { self.new ≡ self.old }
         // It visits no more records than were paid for it.
-        ensures cost { meter.new.nodes ≤ meter.old.nodes + magic_price (length self.old.cache) }
+        ensures cost { meter.new.nodes ≤ meter.old.nodes + magic_due (length self.old.cache) }
     {
         // Where nothing was read back, the walk goes on.
         let _ = self.indexed.read_magic(alloc, meter);
@@ -153,7 +153,7 @@ fn names_price(length: u64) -> u64
 /// What is paid before its magic list is: twice as many.
 fn magic_price(length: u64) -> u64
     requires small { length ≤ 268435456 }
-    ensures { result ≡ magic_price length }
+    ensures { result ≡ magic_due length }
 {
     2 + length / 8
 }

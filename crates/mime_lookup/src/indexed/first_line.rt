@@ -2,10 +2,10 @@
 //!
 //! The lowest number of a line that was found to hold is kept, and no line after it is asked.
 
-ghost use Rattle.std.specs.Prelude.{◌≡◌, ◌+◌, ◌*◌, ◌<◌, ◌≤◌, length};
+ghost use Rattle.std.specs.Prelude.{◌≡◌, ◌*◌, ◌≤◌, length};
 ghost use Rattle.mime_lookup.specs.Heads.{AreLineHeads};
 ghost use Rattle.mime_lookup.specs.Indexed.{AreFound};
-ghost use Rattle.mime_lookup.specs.Tables.{ChainFails, IsFirst, Narrows, OthersFail, TableFails, TablesFail};
+ghost use Rattle.mime_lookup.specs.Tables.{ChainFails, HasTable, IsFirst, Narrows, OthersFail, TableFails, TablesFail};
 ghost use Rattle.mime_lookup.specs.TopLines.{plain_tops};
 
 use crate::indexed::heads::Heads;
@@ -77,9 +77,7 @@ fn in_table<L: MagicLine>(
     meter: &mut Meter,
 ) -> usize
     requires headed { AreLineHeads asked.now.heads.now (plain_tops L.plain asked.now.tops.now) }
-    requires size { length tables.now.nexts.items ≡ length asked.now.tops.now }
-    requires table { table * 256 + 256 ≤ length tables.now.firsts.items }
-    requires place { table < length tables.now.places.items }
+    requires has { HasTable tables.now (length asked.now.tops.now) table }
     requires until { until ≤ length asked.now.tops.now }
     ensures narrows { Narrows (plain_tops L.plain asked.now.tops.now) asked.now.content.now asked.now.host until result }
     ensures fail { TableFails (plain_tops L.plain asked.now.tops.now) asked.now.content.now asked.now.host tables.now result table }

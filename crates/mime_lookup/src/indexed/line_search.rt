@@ -2,7 +2,7 @@
 
 ghost use Rattle.std.specs.Prelude.{◌≡◌, ℕ, ◌+◌, ◌<◌, ◌≤◌, true, false, length, slice_index};
 ghost use Rattle.mime_lookup.specs.Heads.{AreLineHeads, RefusesContent, ShowsBytes};
-ghost use Rattle.mime_lookup.specs.Tables.{Fails, Holds};
+ghost use Rattle.mime_lookup.specs.Tables.{FailsLine, Holds};
 ghost use Rattle.mime_lookup.specs.TopLines.{plain_tops};
 
 use crate::indexed::line_head::LineHead;
@@ -36,7 +36,7 @@ pub fn line_holds<L: MagicLine>(asked: &LineSearch<'_, L>, line: usize, meter: &
     // The line holds where it says so.
     ensures holds { result ≡ true → Holds (plain_tops L.plain asked.now.tops.now) asked.now.content.now asked.now.host line }
     // It doesn't where it says not.
-    ensures fails { result ≡ false → Fails (plain_tops L.plain asked.now.tops.now) asked.now.content.now asked.now.host line }
+    ensures fails { result ≡ false → FailsLine (plain_tops L.plain asked.now.tops.now) asked.now.content.now asked.now.host line }
     // No record of a cache is visited.
     ensures nodes { meter.new.nodes ≡ meter.old.nodes }
 {

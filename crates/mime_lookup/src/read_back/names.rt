@@ -1,14 +1,21 @@
 //! An index over the glob rules of a cache.
 
 ghost use Rattle.std.specs.Prelude.{◌≡◌, ◌≤◌, ℕ, All, List, length, IfOk};
+ghost use Rattle.mime_base.specs.Cache.Bytes.{Stands, field};
 ghost use Rattle.mime_base.specs.Database.{PlainDatabase};
+ghost use Rattle.mime_base.specs.Database.Subclass.{resolved};
+ghost use Rattle.mime_base.specs.Format.Header.{HeaderAt, Offsets};
+ghost use Rattle.mime_base.specs.Format.Pairs.{PairsAt};
 ghost use Rattle.mime_load.specs.NameLists.{AreNameLists};
 ghost use Rattle.mime_lookup.specs.Cached.{IsCacheText};
 ghost use Rattle.mime_lookup.specs.ReadBack.{AreTypesOf};
 ghost use Rattle.mime_lookup.specs.Spelling.{SpellsGlobs};
+ghost use Rattle.mime_view.specs.Pairs.{IsUnaliased};
 
 use crate::read_back::rules::unaliased_rules;
 use crate::read_back::spelled_once::spelled_once;
+use crate::read_back::targets::{target_of, targets_of};
+use indexmap::IndexMap;
 use mime_base::{Counted, Meter, OutOfMemory};
 use mime_load::NameLists;
 use mime_names::{NameIndex, candidate_kinds, kept_kinds};
@@ -28,17 +35,19 @@ pub struct IndexedNames<'a> {
     counted: Counted<'a>,
     /// The index of its rules, each with its type after one alias step.
     index: NameIndex<'a>,
+    /// The target of each of its aliases.
+    targets: IndexMap<&'a [u8], &'a [u8]>,
 }
 
 impl<'a> Model for IndexedNames<'a> {
     ghost use Rattle.std.specs.Prelude.{ℕ, List};
-    ghost use Rattle.mime_lookup.specs.ReadBack.{AreRulesOf};
+    ghost use Rattle.mime_lookup.specs.ReadBack.{AreRulesReadBack, AreTargetsOf};
 
     ghost Value = { List ℕ };
 
     ghost view = { λ names. names.counted };
 
-    ghost invariant = { λ names. AreRulesOf names.counted names.index };
+    ghost invariant = { λ names. AreRulesReadBack names.counted names.index × AreTargetsOf names.counted names.targets };
 }
 
 impl<'a> IndexedNames<'a> {
@@ -53,14 +62,32 @@ impl<'a> IndexedNames<'a> {
         // It is an index over this cache.
         ensures { IfOk result (λ names. names ≡ counted.entry) }
     {
-        let rules = unaliased_rules(alloc, lists)?;
+        let targets = targets_of(alloc, &lists.aliases)?;
+        let rules = unaliased_rules(alloc, lists, &targets)?;
         let index = NameIndex::new(alloc, &rules)?;
-        Ok(IndexedNames { counted, index })
+        Ok(IndexedNames {
+            counted,
+            index,
+            targets,
+        })
     }
 
     /// Whether most rules are general patterns, so that a walk of them is as quick.
     pub fn is_mostly_general(&self) -> bool {
         self.index.is_mostly_general()
+    }
+
+    /// A type after one alias step.
+    pub fn unalias<'k>(&self, kind: &'k [u8]) -> &'k [u8]
+    where
+        'a: 'k,
+        // Where the aliases of a database stand, it is the type that this one stands for, or this one.
+        ensures answer { (offsets : Offsets) (pairs : List (List ℕ × List ℕ)) → HeaderAt (Stands self.now) offsets →
+            PairsAt (Stands self.now) offsets.aliases pairs → result.now ≡ resolved pairs kind.now }
+        // The list of aliases lies in the cache, and it is the type itself or a text of the cache.
+        ensures given { IsUnaliased self.now (field self.now 0 1) kind.now result.now }
+    {
+        target_of(&self.targets, kind)
     }
 
     /// The types of the rules of a name that are asked for, each after one alias step, and how many of these are kept.

@@ -1,33 +1,32 @@
 //! The glob rules of a cache, lent to an index.
 
 ghost use Rattle.std.specs.Prelude.{◌≡◌, ◌++◌, map, IfOk, OnOk};
-ghost use Rattle.mime_load.specs.Lent.{plain_leaves, plain_pairs, plain_rules};
+ghost use Rattle.mime_load.specs.Lent.{plain_leaves, plain_rules};
 ghost use Rattle.mime_load.specs.NameLists.{listed_rules};
-ghost use Rattle.mime_lookup.specs.Indexed.{unaliased_rule};
 ghost use Rattle.mime_lookup.specs.ReadBack.{target_rule};
 ghost use Rattle.mime_names.specs.Rules.{plain_named};
 
-use crate::read_back::targets::{target_of, targets_of};
+use crate::read_back::targets::target_of;
 use indexmap::IndexMap;
 use mime_base::{LentRule, OutOfMemory};
 use mime_load::{LeafRule, NameLists};
 use mime_names::NamedRule;
 use std::alloc::Global;
 
-/// The rules of the lists of a cache, each with its type after one alias step.
+/// The rules of the lists of a cache, each with its type after one alias step by these targets.
 pub fn unaliased_rules<'p, 'a>(
     alloc: Global,
     lists: &'p NameLists<'a>,
+    targets: &IndexMap<&'a [u8], &'a [u8]>,
 ) -> Result<Vec<NamedRule<'p, 'a>>, OutOfMemory>
     // They are those of the literal list, of the tree and of the glob list, but each type went one alias step.
     ensures { IfOk result (λ rules. map plain_named rules.items
-        ≡ map (unaliased_rule (plain_pairs lists.entry.now.aliases.items)) (listed_rules lists.entry.now)) }
+        ≡ map (target_rule targets.now) (listed_rules lists.entry.now)) }
 {
-    let targets = targets_of(alloc, &lists.aliases)?;
     let mut rules = Vec::new(alloc);
-    push_rules(&lists.literals, &targets, &mut rules)?;
-    push_leaves(&lists.leaves, &targets, &mut rules)?;
-    push_rules(&lists.globs, &targets, &mut rules)?;
+    push_rules(&lists.literals, targets, &mut rules)?;
+    push_leaves(&lists.leaves, targets, &mut rules)?;
+    push_rules(&lists.globs, targets, &mut rules)?;
     Ok(rules)
 }
 

@@ -36,7 +36,7 @@ fn pair_at<'b, 'a>(aliases: &'b [LentPair<'a>], place: usize) -> &'b LentPair<'a
 }
 
 /// A type after one alias step.
-pub fn target_of<'a>(targets: &IndexMap<&'a [u8], &'a [u8]>, kind: &'a [u8]) -> &'a [u8]
+pub fn target_of<'k, 'a: 'k>(targets: &IndexMap<&'a [u8], &'a [u8]>, kind: &'k [u8]) -> &'k [u8]
     // It is the target that there is for it, or the type itself.
     ensures { result.now ≡ target_in targets.now kind.entry.now }
 {

@@ -3,7 +3,7 @@ use Rattle.std.proofs.Common.{◌≡◌, ℕ, ◌+◌, List, map, ap, ◌∙◌}
 use Rattle.std.proofs.Common.{arith}
 use Rattle.std.proofs.lemmas.List.Sorted.{sum_by-IsPermutation}
 use Rattle.mime_base.specs.Database.{plain_database}
-use Rattle.mime_base.specs.Format.Magic.{IsSection, MagicAt}
+use Rattle.mime_base.specs.Format.Magic.{IsSectionRecord, MagicAt}
 use Rattle.mime_base.specs.Format.Pairs.{IsPair, PairsAt}
 use Rattle.mime_base.specs.Format.Records.{ListAt, Standing}
 use Rattle.mime_base.specs.Format.Room.{pairs_room, room, rules_room, text_room}
@@ -39,7 +39,7 @@ pub magic_carry : (S S' : Standing) → Carries S S' → (at : ℕ) (sections : 
 magic_carry S S' f at sections m = record {
   first = m.first;
   head = cards_carry S S' f at _ m.head;
-  stand = records_carry IsSection section_keeps S S' f 16 m.first sections m.stand;
+  stand = records_carry IsSectionRecord section_keeps S S' f 16 m.first sections m.stand;
 }
 
 -- a suffix tree that stands stays as more is written

@@ -3,7 +3,7 @@ use Rattle.std.proofs.Common.{◌≡◌, ℕ, ◌+◌, ◌*◌, max, List, [], �
 use Rattle.std.proofs.Common.{sum_by, Option, Some, None, refl, sym, ap, subst, ◌∙◌, arith}
 use Rattle.std.proofs.lemmas.List.{length-map}
 use Rattle.std.proofs.lemmas.List.Sums.{sum_by-cons}
-use Rattle.mime_base.specs.Format.Magic.{IsSection, LinesAt, MaskAt, width}
+use Rattle.mime_base.specs.Format.Magic.{IsSectionRecord, LinesAt, MaskAt, width}
 use Rattle.mime_base.specs.Format.Records.{CardsAt, RecordsAt, Standing}
 use Rattle.mime_base.specs.Format.Room.{lines_room, mask_room, padded}
 use Rattle.mime_base.specs.Magic.Extent.{forest_extent}
@@ -51,7 +51,7 @@ line_keeps S S' f m row h = (
 )
 
 -- a section's record stays one as more is written
-pub section_keeps : Keeps IsSection
+pub section_keeps : Keeps IsSectionRecord
 section_keeps S S' f section row h = (h.0, h.1, h.2, text_carry S S' f h.0 section.kind h.3, lines_carry S S' f h.1 section.lines h.4)
 
 -- records of lines are a forest

@@ -4,7 +4,7 @@ use Rattle.std.proofs.Common.{ap, subst, ◌∙◌, append_assoc, arith}
 use Rattle.std.proofs.lemmas.List.{append-nil}
 use Rattle.mime_base.specs.Format.Records.{CardsAt, RecordsAt, Standing}
 use Rattle.mime_base.specs.Format.Tree.{InOrder, Tree, TreeAt, bare, leaf, leaf_count, leaves_at, node, node_count, sibling_count}
-use Rattle.mime_store.specs.SuffixTree.{IsSibling, Sibling}
+use Rattle.mime_store.specs.SuffixTree.{IsSiblingRecord, Sibling}
 use Rattle.mime_store.specs.SuffixTree.{a_leaf, a_node, as_tree, leaves_of, next_byte}
 use Rattle.mime_store.specs.SuffixTree.{sibling_leaves, sibling_nodes}
 use Rattle.mime_store.specs.Written.{Written}
@@ -21,17 +21,17 @@ tree_carry S S' f at (node byte below rest) h =
     (h.0, cards_carry S S' f at _ h.1, tree_carry S S' f h.0 below h.2, tree_carry S S' f (at + 12) rest h.3)
 
 -- the record of a sibling stays one as more is written
-pub sibling_keeps : Keeps IsSibling
+pub sibling_keeps : Keeps IsSiblingRecord
 sibling_keeps S S' f (a_leaf rule) row h = (h.0, h.1, text_carry S S' f h.0 rule.kind h.2)
 sibling_keeps S S' f (a_node byte below) row h = (h.0, h.1, tree_carry S S' f h.0 below h.2)
 
 -- the record of a sibling has three numbers
-pub sibling_sized : (c : List ℕ) (sibling : Sibling) (row : List ℕ) → IsSibling (Written c) sibling row → length row ≡ 3
+pub sibling_sized : (c : List ℕ) (sibling : Sibling) (row : List ℕ) → IsSiblingRecord (Written c) sibling row → length row ≡ 3
 sibling_sized c (a_leaf rule) row h = rw h.1 refl
 sibling_sized c (a_node byte below) row h = rw h.1 refl
 
 -- records of siblings are a tree
-pub tree_from_records : (S : Standing) (at : ℕ) (xs : List Sibling) → RecordsAt S 12 (IsSibling S) at xs
+pub tree_from_records : (S : Standing) (at : ℕ) (xs : List Sibling) → RecordsAt S 12 (IsSiblingRecord S) at xs
     → TreeAt S at (as_tree xs)
 tree_from_records S at [] h = tt
 tree_from_records S at (a_leaf rule ∷ xs) h =

@@ -4,7 +4,7 @@ use Rattle.std.proofs.Common.{ap, ◌∙◌, append_assoc, arith, length-append}
 use Rattle.std.proofs.lemmas.List.{append-nil}
 use Rattle.mime_base.specs.Format.Records.{CardsAt}
 use Rattle.mime_base.specs.Format.Tree.{InOrder, leaf_count, leaves_at, node_count}
-use Rattle.mime_store.specs.SuffixTree.{PathRule, Fresh, IsBlock, IsSibling, Rises, Sibling, WritesSibling}
+use Rattle.mime_store.specs.SuffixTree.{PathRule, Fresh, IsBlock, IsSiblingRecord, Rises, Sibling, WritesSibling}
 use Rattle.mime_store.specs.SuffixTree.{as_tree, entries_room, first_byte, leaves_of, next_byte}
 use Rattle.mime_store.specs.SuffixTree.{nodes, pick}
 use Rattle.mime_store.specs.Lists.{RecordsIn}
@@ -27,7 +27,7 @@ pub record Sofar (old now rows : List ℕ) (count : ℕ) (es rest : List PathRul
   pub siblings : List Sibling
   pub by : ℕ
   pub grew : Grew old now by
-  pub gathered : RecordsIn (IsSibling (Written now)) rows siblings
+  pub gathered : RecordsIn (IsSiblingRecord (Written now)) rows siblings
   pub counted : length siblings ≡ count
   pub wide : length rows ≡ 3 * count
   pub size : node_count (as_tree siblings) + nodes [] rest ≡ nodes [] es
@@ -69,8 +69,8 @@ sofar_more old now next rows row count n es rest s w =
       siblings = s.siblings ++ w.sibling ∷ [];
       by = s.by + w.by;
       grew = grew_on old now next s.by w.by s.grew w.grew;
-      gathered = records_push (IsSibling (Written next)) rows s.siblings w.sibling row
-          (records_are (IsSibling (Written now)) (IsSibling (Written next))
+      gathered = records_push (IsSiblingRecord (Written next)) rows s.siblings w.sibling row
+          (records_are (IsSiblingRecord (Written now)) (IsSiblingRecord (Written next))
           (sibling_keeps (Written now) (Written next) (written_more now next w.by w.grew)) rows s.siblings s.gathered)
           w.is;
       counted = length-append s.siblings (w.sibling ∷ []) ∙ ap (λ (m : ℕ). m + 1) s.counted;
@@ -96,9 +96,9 @@ pub sofar_all : (old now new rows : List ℕ) (size count first : ℕ) (es : Lis
     → CardsAt (Written new) first rows → IsBlock (Written new) count first es
 sofar_all old now new rows size count first es s g c =
     let z = s.size in
-    let stand = records_stand (IsSibling (Written new)) (IsSibling (Written new)) 3 new
+    let stand = records_stand (IsSiblingRecord (Written new)) (IsSiblingRecord (Written new)) 3 new
     (λ sibling row is. (sibling_sized new sibling row is, is)) rows s.siblings first
-    (records_are (IsSibling (Written now)) (IsSibling (Written new))
+    (records_are (IsSiblingRecord (Written now)) (IsSiblingRecord (Written new))
     (sibling_keeps (Written now) (Written new) (written_more now new size g)) rows s.siblings s.gathered) c.small c.stand in
     record {
       tree = as_tree s.siblings;

@@ -6,7 +6,7 @@ use Rattle.mime_text.specs.declared.magic.fault.Fault.{Fault}
 use Rattle.mime_text.specs.declared.magic.fault.MagicFaultKind.TheVariants.{Truncated, BadSection}
 use Rattle.mime_text.specs.Magic.Reading.{fault_at, row_at, head_of, instead, head_at, section_at}
 use Rattle.mime_text.specs.Magic.Text.{NoNewline}
-use Rattle.mime_text.specs.Magic.FaultTable.{IsHead}
+use Rattle.mime_text.specs.Magic.FaultTable.{IsSectionHead}
 use Rattle.mime_text.proofs.MagicLemmas.Prefixes.{row_only}
 use Rattle.mime_text.proofs.MagicLemmas.HeadFound.{head_row_found}
 use Rattle.mime_text.proofs.FaultLemmas.FaultSteps.{bind_fails, bind_to}
@@ -23,7 +23,7 @@ unfolding head_at
 cut_head row none = bind_fails (row_at row) _ (fault_at Truncated 0) (row_cut row none)
 
 -- a row that is no head
-row_wrong : (wrong : Fault) (row : List ℕ) → (IsHead row → ⊥) → instead wrong (head_of wrong row) ≡ Err wrong
+row_wrong : (wrong : Fault) (row : List ℕ) → (IsSectionHead row → ⊥) → instead wrong (head_of wrong row) ≡ Err wrong
 row_wrong wrong row never = go (head_of wrong row) refl
   where
     go : (r : Result (ℕ × List ℕ) Fault) → head_of wrong row ≡ r → instead wrong r ≡ Err wrong
@@ -31,7 +31,7 @@ row_wrong wrong row never = go (head_of wrong row) refl
     go (Err g) is = refl
 
 -- a head that is wrong
-pub wrong_head : (row after : List ℕ) → NoNewline row → (IsHead row → ⊥)
+pub wrong_head : (row after : List ℕ) → NoNewline row → (IsSectionHead row → ⊥)
     → head_at (91 ∷ (row ++ 10 ∷ after)) ≡ Err (fault_at BadSection (length (91 ∷ (row ++ 10 ∷ after))))
 unfolding head_at
 wrong_head row after none never =

@@ -5,7 +5,7 @@ use Rattle.mime_text.specs.declared.magic.fault.MagicFaultKind.{MagicFaultKind}
 use Rattle.mime_text.specs.declared.magic.fault.MagicFaultKind.TheVariants.{NoHeader, Truncated, BadSection, BadNumber, BadWord, BadIndent}
 use Rattle.mime_text.specs.declared.magic.fault.MagicFaultKind.TheVariants.{TooDeep}
 use Rattle.mime_text.specs.Magic.Reading.{fault_at}
-use Rattle.mime_text.specs.Magic.FaultTable.{IsCutLine, IsMisnumbered, IsMisworded, IsMisindented, IsTooDeep, IsCutAtEnd}
+use Rattle.mime_text.specs.Magic.FaultTable.{IsCutLine, IsMisnumbered, IsMisworded, IsMisindented, IsIndentTooDeep, IsCutAtEnd}
 use Rattle.mime_text.proofs.FaultLemmas.FaultSteps.{Places, places_end}
 
 -- the faults of a line, by kind
@@ -16,7 +16,7 @@ LineFault BadSection limit line at = ⊥
 LineFault BadNumber limit line at = IsMisnumbered limit line at
 LineFault BadWord limit line at = IsMisworded limit line at
 LineFault BadIndent limit line at = IsMisindented limit line at
-LineFault TooDeep limit line at = IsTooDeep limit line at
+LineFault TooDeep limit line at = IsIndentTooDeep limit line at
 
 -- the fault by the table of a line that fails
 pub record LineFails (limit : ℕ) (line : List ℕ) (f : Fault) : Type 0 where

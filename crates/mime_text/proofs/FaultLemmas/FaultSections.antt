@@ -9,7 +9,7 @@ use Rattle.mime_text.specs.Magic.Entries.{PlainEntry}
 use Rattle.mime_text.specs.Magic.Reading.{fault_at, line_at, after_prefix, marker_at, marked, entry_at, starts_line, lines_at, row_at}
 use Rattle.mime_text.specs.Magic.Reading.{head_of, instead, head_at}
 use Rattle.mime_text.specs.Magic.Text.{NoNewline, BeginsMarker, AreLines}
-use Rattle.mime_text.specs.Magic.FaultTable.{limit_after, IsHead}
+use Rattle.mime_text.specs.Magic.FaultTable.{limit_after, IsSectionHead}
 use Rattle.mime_text.proofs.MagicLemmas.Steps.{chosen}
 use Rattle.mime_text.proofs.MagicLemmas.Prefixes.{row_found}
 use Rattle.mime_text.proofs.MagicLemmas.EntryFound.{entry_found}
@@ -95,7 +95,7 @@ lines_fail (suc room) limit (b ∷ bytes) f low enough e =
 -- a head that is cut, that is none up to its newline, or that begins with another byte
 pub data HeadFails (bytes : List ℕ) (f : Fault) : Type 0 where
   head_cut : (row : List ℕ) → bytes ≡ 91 ∷ row → NoNewline row → f ≡ fault_at Truncated 0 → HeadFails bytes f
-  head_wrong : (row after : List ℕ) → bytes ≡ 91 ∷ (row ++ 10 ∷ after) → NoNewline row → (IsHead row → ⊥)
+  head_wrong : (row after : List ℕ) → bytes ≡ 91 ∷ (row ++ 10 ∷ after) → NoNewline row → (IsSectionHead row → ⊥)
       → f ≡ fault_at BadSection (length bytes) → HeadFails bytes f
   head_none : (first : ℕ) (after : List ℕ) → bytes ≡ first ∷ after → first ≢ 91 → f ≡ fault_at BadSection (length bytes) → HeadFails bytes f
 

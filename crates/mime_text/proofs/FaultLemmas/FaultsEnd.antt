@@ -7,7 +7,7 @@ use Rattle.mime_text.specs.declared.magic.fault.MagicFaultKind.TheVariants.{Trun
 use Rattle.mime_text.specs.Magic.Entries.{PlainFlatSection}
 use Rattle.mime_text.specs.Magic.Reading.{fault_at, head_of, header}
 use Rattle.mime_text.specs.Magic.Text.{BeginsMarker, IsSection}
-use Rattle.mime_text.specs.Magic.FaultTable.{IsBeforeLine, IsHead, IsCutHead, HasFault, CanEnd}
+use Rattle.mime_text.specs.Magic.FaultTable.{IsBeforeLine, IsSectionHead, IsCutHead, HasFault, CanEnd}
 use Rattle.mime_text.proofs.MagicLemmas.HeadFound.{head_row_found, regroup_head}
 use Rattle.mime_text.proofs.MagicLemmas.SectionsOnly.{head_row_only}
 use Rattle.mime_text.proofs.FaultLemmas.FaultSteps.{section_final}
@@ -69,7 +69,7 @@ head_settles text c = go (head_of wrong c.row) refl
         ∙ append_assoc header w.sections last in
         (10 ∷ [], inl (w.parts ++ section ∷ [], inr (w.sections ++ last, all, sections_append w.sections last w.parts section w.are is)))
     go (Err f) e =
-        let never : IsHead c.row → ⊥ =
+        let never : IsSectionHead c.row → ⊥ =
         λ (digits, n, kind, is, number, name). let good = ap (head_of wrong) is ∙ head_row_only wrong digits n kind number name in cc in (
           10 ∷ [],
           inr (

@@ -9,7 +9,7 @@ use Rattle.mime_base.specs.Magic.{are_allowed_sections, plain_section, plain_sec
 use Rattle.mime_text.proofs.Merges.Filters.{filter-map, list_all-filter}
 use Rattle.mime_text.proofs.Merges.Undeleted.{keeps-more}
 use Rattle.mime_text.specs.Merging.{PlainDir, is_among, merged_rules, plain_dir, plain_dirs, undeleted, undeleted_sections, without}
-use Rattle.mime_text.specs.Merging.Gathering.{Adds, Gathers, KeepsParts, globs_part, magic_part}
+use Rattle.mime_text.specs.Merging.Gathering.{AddsDirectory, Gathers, KeepsParts, globs_part, magic_part}
 use Rattle.mime_text.specs.declared.merging.DirFiles.{DirFiles}
 use Rattle.mime_text.specs.declared.merging.Lists.{Lists}
 
@@ -28,7 +28,7 @@ part-more : {A : Type 0} (kind_of : A → List ℕ) (part : DirFiles → List A 
 part-more kind_of part dirs dir items deleted keeps = subst (KeepsParts kind_of items deleted) (sym (map_push part dirs dir)) keeps
 
 -- all lists of a directory more
-pub gathers-more : (lists new : Lists) (dirs : List DirFiles) (dir : DirFiles) → Gathers lists dirs → Adds lists dir new
+pub gathers-more : (lists new : Lists) (dirs : List DirFiles) (dir : DirFiles) → Gathers lists dirs → AddsDirectory lists dir new
     → Gathers new (dirs ++ dir ∷ [])
 gathers-more lists new dirs dir gathers adds = record {
   rules = part-more _ globs_part dirs dir _ _ (keeps-more _ _ _ (globs_part dir) _ _ (map globs_part dirs) gathers.rules adds.rules);

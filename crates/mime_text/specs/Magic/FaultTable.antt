@@ -182,14 +182,14 @@ pub data IsMisindented (limit : ℕ) (line : List ℕ) (at : ℕ) : Type 0 where
   too_far : (depth : ℕ) → IsIndented depth line → limit < depth → at ≡ 0 → IsMisindented limit line at
 
 -- TooDeep, at the line: the indent is 64, and no BadIndent
-abbrev pub IsTooDeep : ℕ → List ℕ → ℕ → Type 0
-IsTooDeep limit line at = IsIndented 64 line × (64 ≤ limit) × (at ≡ 0)
+abbrev pub IsIndentTooDeep : ℕ → List ℕ → ℕ → Type 0
+IsIndentTooDeep limit line at = IsIndented 64 line × (64 ≤ limit) × (at ≡ 0)
 
 -- ---- the faults of a head, and of what stands between heads and lines
 
 -- what stands between `[` and the newline of a head
-abbrev pub IsHead : List ℕ → Type 0
-IsHead row =
+abbrev pub IsSectionHead : List ℕ → Type 0
+IsSectionHead row =
     (priority : List ℕ) × (n : ℕ) × (kind : List ℕ) × (row ≡ priority ++ (58 ∷ (kind ++ 93 ∷ [])))
     × IsNumber priority n × (is_type_name kind ≡ true)
 
@@ -209,7 +209,7 @@ pub record IsMisheaded (text : List ℕ) (at : ℕ) : Type 0 where
   pub whole : text ≡ before ++ 91 ∷ (row ++ 10 ∷ after)
   pub before_are : AreWhole before
   pub is_row : NoNewline row
-  pub no_head : IsHead row → ⊥
+  pub no_head : IsSectionHead row → ⊥
   pub place : at ≡ length before
 
 -- BadSection: a byte that begins neither a head nor a line, or before the first section no head
@@ -249,7 +249,7 @@ HasFault text (Malformed BadSection at) = IsMisheaded text at ⊎ IsMisplaced te
 HasFault text (Malformed BadNumber at) = InLine IsMisnumbered text at
 HasFault text (Malformed BadWord at) = InLine IsMisworded text at
 HasFault text (Malformed BadIndent at) = InLine IsMisindented text at
-HasFault text (Malformed TooDeep at) = InLine IsTooDeep text at
+HasFault text (Malformed TooDeep at) = InLine IsIndentTooDeep text at
 HasFault text OutOfMemory = ⊥
 
 -- ---- what appending can change

@@ -11,7 +11,7 @@ use Rattle.mime_text.specs.declared.magic.fault.MagicFaultKind.TheVariants.{NoHe
 use Rattle.mime_text.specs.Magic.Reading.{is_digit, after_prefix, marker_at, header}
 use Rattle.mime_text.specs.Magic.Text.{value_of, AreDigits, IsNumber, NoNewline, BeginsMarker}
 use Rattle.mime_text.specs.Magic.FaultTable.{AreWhole, IsBeforeLine, IsToIndent, IsToStart, IsToMask, IsToEnd, before_start, in_value}
-use Rattle.mime_text.specs.Magic.FaultTable.{bad_number, large_sum, too_far, IsTooDeep, IsHead, HasFault}
+use Rattle.mime_text.specs.Magic.FaultTable.{bad_number, large_sum, too_far, IsIndentTooDeep, IsSectionHead, HasFault}
 
 -- what the rows compute with
 unfoldable computing : Unit {0}
@@ -56,7 +56,7 @@ row_by (b ∷ text) e =
     let p = and_parts (not (b == 10)) (list_all (λ b. not (b == 10)) text) e in (eqb-false b 10 (not-true (b == 10) p.0), row_by text p.1)
 
 -- a head's row begins with a digit
-no_head : (b : ℕ) (row : List ℕ) → is_digit b ≡ false → IsHead (b ∷ row) → ⊥
+no_head : (b : ℕ) (row : List ℕ) → is_digit b ≡ false → IsSectionHead (b ∷ row) → ⊥
 no_head b row other ([], n, kind, is, number, name) = false≢true (lt-ltb 0 0 number.some)
 no_head b row other (d ∷ digits, n, kind, is, number, name) =
     let same : b ≡ d = ap (λ (t : List ℕ). slice_index_or t 0 0) is in
@@ -291,6 +291,6 @@ first_indent = record {
 }
 
 -- after a line of the indent 63, `64>`
-too_deep : IsTooDeep 64 (codes "64>") 0
+too_deep : IsIndentTooDeep 64 (codes "64>") 0
 too_deep =
     (record { indent = codes "64"; after = []; whole = refl; indent_is = number_by (codes "64") refl refl refl }, leb-true 64 64 refl, refl)

@@ -37,7 +37,7 @@ pub record AddsPart {A : Type 0} (kind_of : A → List ℕ) (items : List A) (de
   pub kinds : (kind : List ℕ) → is_among new_deleted kind ≡ is_among (deleted ++ part.1) kind
 
 -- lists to which a directory was added
-pub record Adds (old : Lists) (dir : code.DirFiles) (new : Lists) : Type 0 where
+pub record AddsDirectory (old : Lists) (dir : code.DirFiles) (new : Lists) : Type 0 where
   pub rules : AddsPart (λ rule. rule.kind) old.rules.items.items old.rules.deleted
       (globs_part dir) new.rules.items.items new.rules.deleted
   pub sections : AddsPart (λ section. section.kind) old.sections.items.items old.sections.deleted

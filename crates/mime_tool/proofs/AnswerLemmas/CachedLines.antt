@@ -14,12 +14,12 @@ use Rattle.mime_lookup.specs.CheckingOrder.{Chooses, globs_suffice, read_of}
 use Rattle.mime_lookup.specs.Content.{Health, OfReader, broken, known_content}
 use Rattle.mime_lookup.specs.declared.order.Order.{Order}
 use Rattle.mime_tool.specs.Files.{IsReaderOf, Stored, bytes, closed, dangling, folder, nothing, special, unknown, unreadable}
-use Rattle.mime_tool.specs.Line.{IsOpened, IsTypeLineBy, fits, name_for}
+use Rattle.mime_tool.specs.Line.{IsOpenedRun, IsTypeLineBy, fits, name_for}
 use Rattle.mime_tool.specs.LineSteps.{IsContent}
 use Rattle.mime_request.specs.declared.request.Output.{Output}
 use Rattle.mime_tool.specs.Output.{type_line, written}
 use Rattle.mime_tool.specs.Run.{printed}
-use Rattle.mime_tool.specs.Types.{IsChosen, IsChosenByGlobs, IsLine, cost_tail, lookup_by}
+use Rattle.mime_tool.specs.Types.{IsChosen, IsChosenByGlobs, IsLookUpLine, cost_tail, lookup_by}
 use Rattle.mime_tool.proofs.AnswerLemmas.CachedStops.{named}
 
 -- what is known of a content that a reader tells
@@ -41,7 +41,7 @@ module _ {R : Type 0} (remaining : R → Option (List ℕ)) (health : R → Heal
   -- the line of a type
   line : (IsSaid : PlainDatabase → List ℕ → ℕ → Type 0) (kind : List ℕ) (meter : Meter) (read : ℕ) (tail : List ℕ)
       → tail ≡ cost_tail cost meter read → IsKind cache kind → KeepsBounds (length (name_for order file)) cache read meter
-      → OfSpelled (λ b. IsSaid b kind read) → IsLine cache cost output order file IsSaid (printed (type_line output file kind tail))
+      → OfSpelled (λ b. IsSaid b kind read) → IsLookUpLine cache cost output order file IsSaid (printed (type_line output file kind tail))
   line IsSaid kind meter read tail told is_kind bounds says = record {
     kind = kind;
     meter = meter;
@@ -64,7 +64,7 @@ module _ {R : Type 0} (remaining : R → Option (List ℕ)) (health : R → Heal
       → OfSpelled (λ b. IfSome (known_content remaining (Some reader)) (λ it. IsChosen it order file b kind read))
       → OfSpelled (λ b. health reader ≡ broken → globs_suffice b (name_for order file) order ≡ true)
       → IsReaderOf remaining health stored reader
-      → IsOpened (lookup_by path name_only cost output order cache) stored file (printed (type_line output file kind tail))
+      → IsOpenedRun (lookup_by path name_only cost output order cache) stored file (printed (type_line output file kind tail))
   opened name_only nothing reader kind meter read tail told fit is_kind bounds chosen asked has = absurd has
   opened name_only folder reader kind meter read tail told fit is_kind bounds chosen asked has = absurd has
   opened name_only closed reader kind meter read tail told fit is_kind bounds chosen asked has = absurd has

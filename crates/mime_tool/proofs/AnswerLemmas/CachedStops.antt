@@ -19,7 +19,7 @@ use Rattle.mime_view.specs.declared.fault.CacheFault.{CacheFault}
 use Rattle.mime_tool.specs.Cache.{GivesOrRefuses, IsCacheFaultStop, cache_fault_name}
 use Rattle.mime_tool.specs.Files.{Stored, bytes, closed, dangling, folder, nothing, special, unknown, unreadable}
 use Rattle.mime_tool.specs.Line.{IsNamed, IsTypeLineBy, fits, name_for}
-use Rattle.mime_tool.specs.LineSteps.{IsContent, LooksUp}
+use Rattle.mime_tool.specs.LineSteps.{IsContent, LooksUpFile}
 use Rattle.mime_request.specs.declared.request.Output.{Output}
 use Rattle.mime_tool.specs.Output.{written}
 use Rattle.mime_tool.specs.Run.{Run, refusal, silent, stopped}
@@ -93,7 +93,7 @@ module _ {R : Type 0} (remaining : R → Option (List ℕ)) (health : R → Heal
   looked_up : (s : Stop) → GivesOrRefuses {X = Unit {0}} path (RefusesLookup cache (name_for order file)) (λ _. ⊤) (Err s)
       → fits (name_for order file) ≡ true
       → (stored : Stored) (name_only : Bool) (content : Option R) → IsContent remaining health name_only stored content
-      → LooksUp (lookup_by path name_only cost output order cache) stored file (Err s)
+      → LooksUpFile (lookup_by path name_only cost output order cache) stored file (Err s)
   looked_up stop.OutOfMemory p fit stored name_only content has = tt
   looked_up stop.CannotWrite p fit stored name_only content has = absurd p
   looked_up (stop.Refused m) p fit stored name_only content has =
@@ -106,7 +106,7 @@ module _ {R : Type 0} (remaining : R → Option (List ℕ)) (health : R → Heal
       → ((b : PlainDatabase) → IsWithinLimits b → Spells cache b → Packed cache b
       → (cause.Cache f ≡ cause.Read) ⊎ (cause.Cache f ≡ cause.OutOfMemory))
       → (stored : Stored) (name_only : Bool) → IsContent remaining health name_only stored content
-      → LooksUp (lookup_by path name_only cost output order cache) stored file (Err s)
+      → LooksUpFile (lookup_by path name_only cost output order cache) stored file (Err s)
   line_refused f s content stops fit is answers stored name_only has =
       looked_up s (refused_for (Unit {0}) path cache (IsLookUpFault cache (name_for order file) ⊥) IsWithinLimits (λ _. ⊤) f s stops
       (fault_of_stop cache (name_for order file) f is)

@@ -8,20 +8,25 @@ use Rattle.mime_lookup.specs.declared.order.Order.{Order}
 use Rattle.mime_lookup.specs.declared.stopped.Cause.{Cause}
 use Rattle.mime_lookup.specs.declared.stopped.Cause.TheVariants as cause
 use Rattle.mime_lookup.specs.declared.stopped.Stopped.{Stopped}
-use Rattle.mime_tool.specs.FromTexts.{AsksOnly, AsksReader, IfStopped, IsFaultOfDirs, IsStoreFault, SayDatabase, of_cause}
+use Rattle.mime_text.specs.DirTexts.{SayDatabase}
+use Rattle.mime_text.specs.declared.dir_texts.DirTexts.{DirTexts}
+use Rattle.mime_text.specs.declared.dir_texts.DirsFault.{DirsFault}
+use Rattle.mime_text.specs.declared.dir_texts.DirsFault.TheVariants as dirs_fault
+use Rattle.mime_tool.specs.FromTexts.{AsksOnly, AsksReader, IfStopped, IsReadFault, IsStoreFault, of_cause, of_dirs}
 use Rattle.mime_tool.specs.FromTexts.{of_stopped}
 use Rattle.mime_tool.specs.declared.from_texts.AnswerFault.{AnswerFault}
 use Rattle.mime_tool.specs.declared.from_texts.AnswerFault.TheVariants as fault
-use Rattle.mime_tool.specs.declared.from_texts.DirBytes.{DirBytes}
 use Rattle.mime_tool.specs.declared.from_texts.OwnedAnswer.{OwnedAnswer}
 use Rattle.mime_tool.proofs.DirectoryLemmas.SaidDatabases.{one_database}
 
 -- a fault of the directories is no stop of a lookup
-pub dirs_early : (dirs : List DirBytes) (e : AnswerFault) → IsFaultOfDirs dirs e → IfStopped e (λ _. ⊥)
-dirs_early dirs (fault.Magic i f) is = tt
-dirs_early dirs (fault.Store f) is = absurd is
-dirs_early dirs (fault.Lookup stopped) is = absurd is
-dirs_early dirs fault.OutOfMemory is = tt
+no_stop : (f : DirsFault) → IfStopped (of_dirs f) (λ _. ⊥)
+no_stop (dirs_fault.Magic i kind offset) = tt
+no_stop dirs_fault.OutOfMemory = tt
+
+-- so is none of reading them
+pub dirs_early : (dirs : List DirTexts) (e : AnswerFault) → IsReadFault dirs e → IfStopped e (λ _. ⊥)
+dirs_early dirs e is = subst (λ (x : AnswerFault). IfStopped x (λ _. ⊥)) (sym is.2) (no_stop is.0)
 
 -- nor is one of writing the cache
 pub store_early : (b : PlainDatabase) (e : AnswerFault) → IsStoreFault b e → IfStopped e (λ _. ⊥)
@@ -96,7 +101,7 @@ asks_stopped health suffice before after stopped asked = go stopped.cause
     go cause.OutOfMemory = tt
 
 -- what was asked over the database that was read
-pub asks_over : {R : Type 0} (health : R → Health) (dirs : List DirBytes) (read b : PlainDatabase) (name : List ℕ) (order : Order)
+pub asks_over : {R : Type 0} (health : R → Health) (dirs : List DirTexts) (read b : PlainDatabase) (name : List ℕ) (order : Order)
     (before after : Option R) (result : Result OwnedAnswer AnswerFault) → SayDatabase dirs read → SayDatabase dirs b
     → AsksOnly health (globs_suffice read name order) before after result → AsksOnly health (globs_suffice b name order) before after result
 asks_over health dirs read b name order before after result is says asks =

@@ -2,7 +2,7 @@
 use Rattle.std.proofs.Common.{ℕ, Bool, true, false, List, Ok, Err, Result}
 use Rattle.mime_tool.specs.Files.{Stored, bytes, closed, dangling, folder, nothing, special, unknown, unreadable}
 use Rattle.mime_tool.specs.Line.{IsTypeLineBy, PlainLookup, with_inode}
-use Rattle.mime_tool.specs.LineSteps.{LooksUp}
+use Rattle.mime_tool.specs.LineSteps.{LooksUpFile}
 use Rattle.mime_tool.specs.Run.{Run}
 use Rattle.mime_tool.specs.declared.line.Outcome.{Outcome}
 use Rattle.mime_tool.specs.declared.stop.Stop.{Stop}
@@ -23,7 +23,7 @@ module _ (inode : Bool) (lookup : PlainLookup) (file : List ℕ) where
   same_line false unknown run p = p
 
   -- so is what it comes to
-  pub same_lookup : (stored : Stored) (r : Result Outcome Stop) → LooksUp lookup stored file r → LooksUp (with_inode inode lookup) stored file r
+  pub same_lookup : (stored : Stored) (r : Result Outcome Stop) → LooksUpFile lookup stored file r → LooksUpFile (with_inode inode lookup) stored file r
   same_lookup stored (Ok o) p = same_line lookup.name_only stored _ p
   same_lookup stored (Err stop.OutOfMemory) p = tt
   same_lookup stored (Err stop.CannotWrite) p = p

@@ -1,6 +1,6 @@
 -- How the names of a list, as they are read, come to its end.
 use Rattle.std.proofs.Common.{ℕ, ◌+◌, true, List, [], ◌∷◌, Ok, Err, Result, refl, subst, sym}
-use Rattle.mime_tool.specs.Desk.{Ends}
+use Rattle.mime_tool.specs.Desk.{EndsOverFiles}
 use Rattle.mime_tool.specs.Files.{Stored, bytes, closed, dangling, folder, nothing, special, unknown, unreadable}
 use Rattle.mime_tool.specs.Finish.{Sinks, Writes}
 use Rattle.mime_tool.specs.Listed.{AreListed, IsNumbered, listed, names_given}
@@ -13,7 +13,7 @@ use Rattle.mime_tool.proofs.RunLemmas.ListedRuns.{listed_unknown, numbered_more,
 module _ (IsOne : List ℕ → Run → Type 0) (list : List ℕ) where
   -- what is done over a list of this content, from the name of this number on
   abbrev pub EndsListed : Stored → ℕ → Sinks → Sinks → Result ℕ Stop → Type 0
-  EndsListed stored n a b r = Ends (AreListed IsOne list stored n) (names_given stored) a b r
+  EndsListed stored n a b r = EndsOverFiles (AreListed IsOne list stored n) (names_given stored) a b r
 
   -- a name of a known list goes before the rest
   known_front : (n : ℕ) (name bs rest : List ℕ)
@@ -39,12 +39,12 @@ module _ (IsOne : List ℕ → Run → Type 0) (list : List ℕ) where
 
   -- a name is answered, and then the rest
   listed_more : (before after : Stored) (n : ℕ) (name : List ℕ) (a b c : Sinks) (status : ℕ) (r : Result ℕ Stop) → Gives before name after
-      → Ends (λ _. IsNumbered IsOne list n name) [] a b (Ok status) → EndsListed after (n + 1) b c r
+      → EndsOverFiles (λ _. IsNumbered IsOne list n name) [] a b (Ok status) → EndsListed after (n + 1) b c r
       → EndsListed before n a c (raised status r)
   listed_more (bytes bs) after n name a b c status r gives p q =
       let rest = gives.0 in
       let left = subst (λ (s : Stored). EndsListed s (n + 1) b c r) gives.2 q in
-      subst (λ (names : List (List ℕ)). Ends (AreListed IsOne list (bytes bs) n) names a c (raised status r)) (sym gives.1)
+      subst (λ (names : List (List ℕ)). EndsOverFiles (AreListed IsOne list (bytes bs) n) names a c (raised status r)) (sym gives.1)
       (ends_followed _ _ _ _ (known_front n name bs rest) (listed rest) a b c status r p left)
   listed_more unknown after n name a b c status r gives p q =
       ends_followed _ _ _ _ (unknown_front n name after) (names_given after) a b c status r p q
@@ -57,9 +57,9 @@ module _ (IsOne : List ℕ → Run → Type 0) (list : List ℕ) where
 
   -- a name isn't answered
   listed_stopped : (before after : Stored) (n : ℕ) (name : List ℕ) (a b : Sinks) (e : Stop) → Gives before name after
-      → Ends (λ _. IsNumbered IsOne list n name) [] a b (Err e) → EndsListed before n a b (Err e)
+      → EndsOverFiles (λ _. IsNumbered IsOne list n name) [] a b (Err e) → EndsListed before n a b (Err e)
   listed_stopped (bytes bs) after n name a b e gives p =
-      subst (λ (names : List (List ℕ)). Ends (AreListed IsOne list (bytes bs) n) names a b (Err e)) (sym gives.1)
+      subst (λ (names : List (List ℕ)). EndsOverFiles (AreListed IsOne list (bytes bs) n) names a b (Err e)) (sym gives.1)
       (ends_first _ _ _ _ (known_front n name bs gives.0) (listed gives.0) a b e p)
   listed_stopped unknown after n name a b e gives p = ends_first _ _ _ _ (unknown_front n name after) [] a b e p
   listed_stopped nothing after n name a b e gives p = absurd gives
@@ -83,7 +83,7 @@ module _ (IsOne : List ℕ → Run → Type 0) (list : List ℕ) where
 
   -- a name is read and answered, and then the rest
   pub named_more : (before after : Stored) (n : ℕ) (name : List ℕ) (a b c d : Sinks) (status : ℕ) (r : Result ℕ Stop)
-      → Writes a b silent × Gives before name after → Ends (λ _. IsNumbered IsOne list n name) [] b c (Ok status)
+      → Writes a b silent × Gives before name after → EndsOverFiles (λ _. IsNumbered IsOne list n name) [] b c (Ok status)
       → EndsListed after (n + 1) c d r → EndsListed before n a d (raised status r)
   named_more before after n name a b c d status r named p q =
       ends_after_nothing (AreListed IsOne list before n) (names_given before) a b d (raised status r) named.0
@@ -91,7 +91,7 @@ module _ (IsOne : List ℕ → Run → Type 0) (list : List ℕ) where
 
   -- a name is read and not answered
   pub named_stopped : (before after : Stored) (n : ℕ) (name : List ℕ) (a b c : Sinks) (e : Stop) → Writes a b silent × Gives before name after
-      → Ends (λ _. IsNumbered IsOne list n name) [] b c (Err e) → EndsListed before n a c (Err e)
+      → EndsOverFiles (λ _. IsNumbered IsOne list n name) [] b c (Err e) → EndsListed before n a c (Err e)
   named_stopped before after n name a b c e named p =
       ends_after_nothing (AreListed IsOne list before n) (names_given before) a b c (Err e) named.0
       (listed_stopped before after n name b c e named.1 p)

@@ -5,7 +5,7 @@ use Rattle.mime_base.specs.Database.{PlainDatabase, plain_database}
 use Rattle.mime_base.specs.declared.database.Database.{Database}
 use Rattle.mime_request.specs.Request.{PlainDirectories}
 use Rattle.mime_tool.specs.Build.{BuildsOver, BuildsWhere, IsBuildOver, IsReplaced, LeavesOver, LeavesWhere, temp_of, writing_of, written_of}
-use Rattle.mime_tool.specs.Desk.{Ends, Setting, State, Works}
+use Rattle.mime_tool.specs.Desk.{EndsOverFiles, Setting, State, Works}
 use Rattle.mime_tool.specs.Directories.{IsCommand, IsDatabaseOf}
 use Rattle.mime_tool.specs.Environment.{PlainEnvironment}
 use Rattle.mime_tool.specs.Files.{Stored, Untouched, Writing}
@@ -20,8 +20,8 @@ use Rattle.mime_tool.proofs.RunLemmas.Commands.{command_over, command_unloaded}
 stops_untouched : (e : Option PlainEnvironment) (dirs : PlainDirectories) (drop_twins : Bool) (file : List ℕ)
     (writes : List ℕ → List ℕ → Writing) (old new : List ℕ → Stored) (a b : Sinks)
     (s : Stop) → Untouched (temp_of file) old new
-    → Ends (IsCommand old (Some file) e dirs (λ d _. IsBuildOver file (writing_of writes file) old new (written_of drop_twins d))) [] a b (Err s)
-    → Ends (IsReplaced e dirs drop_twins file writes old new) [] a b (Err s)
+    → EndsOverFiles (IsCommand old (Some file) e dirs (λ d _. IsBuildOver file (writing_of writes file) old new (written_of drop_twins d))) [] a b (Err s)
+    → EndsOverFiles (IsReplaced e dirs drop_twins file writes old new) [] a b (Err s)
 stops_untouched e dirs drop_twins file writes old new a b stop.OutOfMemory untouched (inl p) = inl p
 stops_untouched e dirs drop_twins file writes old new a b stop.OutOfMemory untouched (inr p) = inr (
   p.0,
@@ -51,8 +51,8 @@ builds_unloaded e t dirs drop_twins file a b s p =
 over_loaded : (e : Option PlainEnvironment) (dirs : PlainDirectories) (drop_twins : Bool) (file : List ℕ)
     (writes : List ℕ → List ℕ → Writing) (old new : List ℕ → Stored) (a c : Sinks)
     (database : PlainDatabase) (r : Result ℕ Stop) → LeavesOver file old new (written_of drop_twins database) r
-    → Ends (IsCommand old (Some file) e dirs (λ d _. IsBuildOver file (writing_of writes file) old new (written_of drop_twins d))) [] a c r
-    → Ends (IsReplaced e dirs drop_twins file writes old new) [] a c r
+    → EndsOverFiles (IsCommand old (Some file) e dirs (λ d _. IsBuildOver file (writing_of writes file) old new (written_of drop_twins d))) [] a c r
+    → EndsOverFiles (IsReplaced e dirs drop_twins file writes old new) [] a c r
 over_loaded e dirs drop_twins file writes old new a c database (Ok status) leaves p =
     (p.0, (p.1, λ is. absurd (false≢true (sym p.2 ∙ is))), p.2, p.3, p.4)
 over_loaded e dirs drop_twins file writes old new a c database (Err s) leaves p =

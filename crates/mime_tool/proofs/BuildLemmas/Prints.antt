@@ -5,7 +5,7 @@ use Rattle.mime_base.specs.Database.{PlainDatabase, plain_database}
 use Rattle.mime_base.specs.declared.database.Database.{Database}
 use Rattle.mime_request.specs.Request.{PlainDirectories}
 use Rattle.mime_tool.specs.Build.{BuildsWhere, GivesCache, IsPrintOver, IsPrinted, no_terminal, written_of}
-use Rattle.mime_tool.specs.Desk.{Does, Ends, State, Works}
+use Rattle.mime_tool.specs.Desk.{Does, EndsOverFiles, State, Works}
 use Rattle.mime_tool.specs.Directories.{IsCommand, IsDatabaseOf}
 use Rattle.mime_tool.specs.Environment.{PlainEnvironment}
 use Rattle.mime_tool.specs.Loading.{Loads}
@@ -19,7 +19,7 @@ use Rattle.mime_tool.proofs.RunLemmas.Ends.{writes_nothing}
 
 -- the run over a database of which the cache is printed
 abbrev pub Prints : PlainDatabase → State → State → Result ℕ Stop → Type 0
-Prints database a b r = Works (Ends (λ _. IsPrintOver database) []) a b r
+Prints database a b r = Works (EndsOverFiles (λ _. IsPrintOver database) []) a b r
 
 -- a cache is printed, and no more is done
 abbrev pub is_over : (database : PlainDatabase) (cache : Vec ℕ Global) → GivesCache database (Ok cache)
@@ -30,7 +30,7 @@ is_over database cache p = inr (inl (p.1, (cache.items, p.0, refl)))
 pub prints_uncached : (database : PlainDatabase) (a : State) (s : Stop) → GivesCache database (Err s) → Prints database a a (Err s)
 prints_uncached database a s p = record { same_files = refl; same_setting = refl; sinks = by_stop s p }
   where
-    by_stop : (s : Stop) → GivesCache database (Err s) → Ends (λ _. IsPrintOver database) [] a.sinks a.sinks (Err s)
+    by_stop : (s : Stop) → GivesCache database (Err s) → EndsOverFiles (λ _. IsPrintOver database) [] a.sinks a.sinks (Err s)
     by_stop stop.OutOfMemory p = inl (writes_nothing a.sinks)
     by_stop stop.CannotWrite p = absurd p
     by_stop (stop.Refused m) p = (silent, inl (p.1, ap (λ (t : List ℕ). stopped t silent) p.0), writes_nothing a.sinks)
@@ -60,7 +60,7 @@ prints_untold database a = record { same_files = refl; same_setting = refl; sink
 module _ (e : Option PlainEnvironment) (dirs : PlainDirectories) (drop_twins : Bool) where
   -- the run of `build` to what is no terminal
   abbrev pub PrintsMade : State → State → Result ℕ Stop → Type 0
-  PrintsMade a b r = Works (Ends (IsCommand a.stored None e dirs (λ d _. IsPrintOver (written_of drop_twins d))) []) a b r
+  PrintsMade a b r = Works (EndsOverFiles (IsCommand a.stored None e dirs (λ d _. IsPrintOver (written_of drop_twins d))) []) a b r
 
   -- some run is that over a database
   can_be_cut : (d : PlainDatabase) → (run : Run) × IsPrintOver (written_of drop_twins d) run
@@ -89,15 +89,15 @@ module _ (e : Option PlainEnvironment) (dirs : PlainDirectories) (drop_twins : B
 
   -- nothing is printed to a terminal
   pub prints_no_terminal : (a : State) (s : Stop) → IsRefusal no_terminal s
-      → Works (Ends (IsPrinted true a.stored e dirs drop_twins) []) a a (Err s)
+      → Works (EndsOverFiles (IsPrinted true a.stored e dirs drop_twins) []) a a (Err s)
   prints_no_terminal a s p = record { same_files = refl; same_setting = refl; sinks = by_stop s p }
     where
-      by_stop : (s : Stop) → IsRefusal no_terminal s → Ends (IsPrinted true a.stored e dirs drop_twins) [] a.sinks a.sinks (Err s)
+      by_stop : (s : Stop) → IsRefusal no_terminal s → EndsOverFiles (IsPrinted true a.stored e dirs drop_twins) [] a.sinks a.sinks (Err s)
       by_stop stop.OutOfMemory p = inl (writes_nothing a.sinks)
       by_stop stop.CannotWrite p = absurd p
       by_stop (stop.Refused m) p = (silent, ap (λ (t : List ℕ). stopped t silent) p, writes_nothing a.sinks)
 
   -- what is printed is the run of `build`
   pub builds_printed : (t : Bool) (file : List ℕ) (a b : State) (r : Result ℕ Stop)
-      → Works (Ends (IsPrinted t a.stored e dirs drop_twins) []) a b r → BuildsWhere true e t dirs drop_twins file a b r
+      → Works (EndsOverFiles (IsPrinted t a.stored e dirs drop_twins) []) a b r → BuildsWhere true e t dirs drop_twins file a b r
   builds_printed t file a b r p = record { same_setting = p.same_setting; sinks = p.sinks; leaves = p.same_files }

@@ -1,7 +1,7 @@
 -- What parts of a command do to the sinks.
 use Rattle.std.proofs.Common.{◌≡◌, ◌+◌, ◌<◌, ℕ, List, [], ◌++◌, Ok, Err, Result, length, take, drop, get_or, refl, subst}
 use Rattle.std.specs.List.{flat_map}
-use Rattle.mime_tool.specs.Desk.{Does, Ends}
+use Rattle.mime_tool.specs.Desk.{Does, EndsOverFiles}
 use Rattle.mime_tool.specs.Finish.{Sinks}
 use Rattle.mime_tool.specs.Run.{Run, joined, printed, said}
 use Rattle.mime_tool.specs.declared.stop.Stop.{Stop}
@@ -64,14 +64,14 @@ prints_cut_at Y f xs i x a b c u e lt is before here =
 
 -- it isn't done
 pub ends_undone : (X : Type 0) (P : Run → Type 0) (run : Run) (a b : Sinks) (s : Stop) → P run → Does {X = X} run a b (Err s)
-    → Ends (λ _. P) [] a b (Err s)
+    → EndsOverFiles (λ _. P) [] a b (Err s)
 ends_undone X P run a b stop.OutOfMemory is p = cut_all (λ _. P) [] a b run is p
 ends_undone X P run a b stop.CannotWrite is p = p
 ends_undone X P run a b (stop.Refused m) is p = absurd p
 
 -- a run whose message isn't said; the message doesn't depend on the status
 pub other_unsaid : (X : Type 0) (P : Run → Type 0) (status : ℕ) (text : List ℕ) (a b : Sinks) (s : Stop)
-    → P (record { status = status; out = []; err = text }) → Does {X = X} (said text) a b (Err s) → Ends (λ _. P) [] a b (Err s)
+    → P (record { status = status; out = []; err = text }) → Does {X = X} (said text) a b (Err s) → EndsOverFiles (λ _. P) [] a b (Err s)
 other_unsaid X P status text a b stop.OutOfMemory is p = cut_all (λ _. P) [] a b
     (record { status = status; out = []; err = text }) is p
 other_unsaid X P status text a b stop.CannotWrite is p = p
@@ -80,7 +80,7 @@ other_unsaid X P status text a b (stop.Refused m) is p = absurd p
 -- a run whose line isn't printed; nor does the line
 pub other_unprinted : (X : Type 0) (P : Run → Type 0) (status : ℕ) (text : List ℕ) (a b : Sinks) (s : Stop)
     → P (record { status = status; out = text; err = [] }) → Does {X = X} (printed text) a b (Err s)
-    → Ends (λ _. P) [] a b (Err s)
+    → EndsOverFiles (λ _. P) [] a b (Err s)
 other_unprinted X P status text a b stop.OutOfMemory is p = cut_all (λ _. P) [] a b
     (record { status = status; out = text; err = [] }) is p
 other_unprinted X P status text a b stop.CannotWrite is p = p

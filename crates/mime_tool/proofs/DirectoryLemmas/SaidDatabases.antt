@@ -5,10 +5,10 @@ use Rattle.mime_base.specs.Database.PlainPairs.{is_same_pair}
 use Rattle.mime_base.specs.Falling.{falling}
 use Rattle.mime_base.specs.Magic.{PlainSection}
 use Rattle.mime_base.specs.declared.database.rule.GlobRule.{GlobRule}
+use Rattle.mime_text.specs.DirTexts.{SayDatabase}
 use Rattle.mime_text.specs.Merging.{PlainDir, has_same_name, merged, merged_rules, once, visible_database}
 use Rattle.mime_text.specs.Merging.{undeleted_sections}
-use Rattle.mime_tool.specs.FromTexts.{SayDatabase}
-use Rattle.mime_tool.specs.declared.from_texts.DirBytes.{DirBytes}
+use Rattle.mime_text.specs.declared.dir_texts.DirTexts.{DirTexts}
 use Rattle.mime_tool.proofs.DirectoryLemmas.SaidTexts.{AreAlike, all_alike, same_items, same_lists}
 
 -- pairs of names
@@ -52,7 +52,7 @@ merged_alike lefts rights are =
     (ap (once has_same_name) (same_lists (λ dir. dir.generic_icons) (λ l r is. is.generic_icons) lefts rights are))
 
 -- the texts of directories say one database
-pub one_database : (dirs : List DirBytes) (left right : PlainDatabase) → SayDatabase dirs left → SayDatabase dirs right
+pub one_database : (dirs : List DirTexts) (left right : PlainDatabase) → SayDatabase dirs left → SayDatabase dirs right
     → left ≡ right
 one_database dirs left right p q =
     p.2 ∙ ap visible_database (merged_alike p.0 q.0 (all_alike dirs p.0 q.0 p.1 q.1)) ∙ sym q.2

@@ -6,14 +6,14 @@ use Rattle.std.specs.List.{flat_map}
 use Rattle.std.proofs.lemmas.Cmp.{nat_list_eq_equiv}
 use Rattle.std.proofs.lemmas.Map.Views.{Contains-from_any, list_any-from_Contains}
 use Rattle.std.proofs.lemmas.Slice.Eq.{bytes_eq-Decides}
+use Rattle.mime_text.specs.DirTexts.{SayDirs, SaysDir}
 use Rattle.mime_text.specs.Lines.{HasJust}
 use Rattle.mime_text.specs.Magic.File.{deleted_kinds, kept_sections}
 use Rattle.mime_text.specs.Merging.{PlainDir, is_among, undeleted}
 use Rattle.mime_text.specs.Merging.{without}
+use Rattle.mime_text.specs.declared.dir_texts.DirTexts.{DirTexts}
 use Rattle.mime_text.proofs.MagicLemmas.Laws.{one_list}
 use Rattle.mime_text.proofs.Merges.Undeleted.{without-alike}
-use Rattle.mime_tool.specs.FromTexts.{SayDirs, SaysDir}
-use Rattle.mime_tool.specs.declared.from_texts.DirBytes.{DirBytes}
 
 -- ---- markers
 
@@ -56,12 +56,12 @@ pub record IsAlike (left right : PlainDir) : Type 0 where
   pub generic_icons : left.generic_icons ≡ right.generic_icons
 
 -- what the same texts say is alike
-pub said_alike : (dir : DirBytes) (left right : PlainDir) → SaysDir dir left → SaysDir dir right → IsAlike left right
+pub said_alike : (dir : DirTexts) (left right : PlainDir) → SaysDir dir left → SaysDir dir right → IsAlike left right
 said_alike dir left right p q =
     let one = one_list dir.magic.now p.magic.0 q.magic.0 p.magic.1 q.magic.1 in
     record {
-      rules = p.globs.0 ∙ sym q.globs.0;
-      deleted_globs = just_alike left.deleted_globs right.deleted_globs _ p.globs.1 q.globs.1;
+      rules = p.rules ∙ sym q.rules;
+      deleted_globs = just_alike left.deleted_globs right.deleted_globs _ p.deleted_globs q.deleted_globs;
       sections = p.magic.2 ∙ ap kept_sections one ∙ sym q.magic.2;
       deleted_magic = just_alike left.deleted_magic right.deleted_magic (deleted_kinds q.magic.0)
           (subst (λ sections. HasJust left.deleted_magic (deleted_kinds sections)) one p.magic.3) q.magic.3;
@@ -81,7 +81,7 @@ AreAlike (left ∷ lefts) [] = ⊥
 AreAlike (left ∷ lefts) (right ∷ rights) = IsAlike left right × AreAlike lefts rights
 
 -- what the same texts say is alike
-pub all_alike : (dirs : List DirBytes) (lefts rights : List PlainDir) → SayDirs dirs lefts → SayDirs dirs rights
+pub all_alike : (dirs : List DirTexts) (lefts rights : List PlainDir) → SayDirs dirs lefts → SayDirs dirs rights
     → AreAlike lefts rights
 all_alike [] [] [] p q = tt
 all_alike [] [] (right ∷ rights) p q = absurd q

@@ -14,7 +14,7 @@ use Rattle.mime_base.specs.declared.database.rule.GlobRule.{GlobRule}
 use Rattle.mime_base.proofs.FallingLemmas.Order.{falling-map}
 use Rattle.mime_base.proofs.KeptLemmas.{of_greatest-rank_of_rule}
 use Rattle.mime_base.proofs.KeptLemmas.Greatest.{of_greatest-map}
-use Rattle.mime_tool.specs.ExplainSteps.{AreOffers, offer_of, plain_offer}
+use Rattle.mime_tool.specs.ExplainSteps.{AreRanked, offer_of, plain_offer}
 
 -- the number of an offer, lent or plain
 abbrev lent_number : ℕ × LentRule → ℕ
@@ -36,7 +36,7 @@ plain_rules-of offers = map-map plain_rule lent_rule offers ∙ sym (map-map pla
 rules_of-offers : (rules : List GlobRule) → map plain_second (map offer_of rules) ≡ rules
 rules_of-offers rules = map-map plain_second offer_of rules ∙ map-id rules
 
-module _ (rules : List GlobRule) (name : List ℕ) (offers : List (ℕ × LentRule)) (are : AreOffers (hits rules name) offers) where
+module _ (rules : List GlobRule) (name : List ℕ) (offers : List (ℕ × LentRule)) (are : AreRanked (hits rules name) offers) where
   -- those of the greatest rank are kept
   pub kept-offers : All FitsRank rules → map plain_rule (map lent_rule (of_greatest lent_number offers)) ≡ kept_rules rules name
   unfolding kept_rules

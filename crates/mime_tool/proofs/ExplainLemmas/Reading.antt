@@ -8,7 +8,7 @@ use Rattle.mime_base.specs.declared.magic.host.Host.TheVariants.{Little}
 use Rattle.mime_base.proofs.MagicLemmas.Fronts.{first_magic-front}
 use Rattle.mime_lookup.specs.CheckingOrder.{before_globs}
 use Rattle.mime_lookup.specs.Choice.{kept}
-use Rattle.mime_lookup.specs.Fronts.{IsRead}
+use Rattle.mime_lookup.specs.Fronts.{IsEnoughFront}
 use Rattle.mime_lookup.specs.declared.order.Order.{Order}
 use Rattle.mime_lookup.specs.declared.order.Order.TheVariants.{AllGlobs, ContentOnly, GlobsFirst, MagicFirst}
 use Rattle.mime_lookup.proofs.SniffLemmas.Front.{chooses_enough}
@@ -57,7 +57,7 @@ module _ (b : PlainDatabase) (output : Output) (order : Order) (whole front file
   all_read rest split none = split ∙ ap (λ (end : List ℕ). front ++ end) none ∙ append-nil front
 
   -- the lines of a front that is enough are those of the whole
-  pub explained_whole : IsRead b whole front → IsExplained b output order (Some front) file run → IsExplained b output order (Some whole) file run
+  pub explained_whole : IsEnoughFront b whole front → IsExplained b output order (Some front) file run → IsExplained b output order (Some whole) file run
   explained_whole read is = go read.long
     where
       go : (read.rest ≡ []) ⊎ ((128 ≤ length front) × (extent b ≤ length front)) → IsExplained b output order (Some whole) file run

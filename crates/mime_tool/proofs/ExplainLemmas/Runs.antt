@@ -9,7 +9,7 @@ use Rattle.mime_lookup.specs.declared.order.Order.{Order}
 use Rattle.mime_lookup.specs.declared.stopped.Cause.TheVariants as cause
 use Rattle.mime_request.specs.declared.request.Output.{Output}
 use Rattle.mime_tool.specs.Cache.{GivesOrRefuses, IsAnsweredOr}
-use Rattle.mime_tool.specs.Desk.{Ends}
+use Rattle.mime_tool.specs.Desk.{EndsOverFiles}
 use Rattle.mime_tool.specs.Explain.{IsExplained, explained_by}
 use Rattle.mime_tool.specs.ExplainSteps.{ComesToText, ReadsEnough, run_of_text}
 use Rattle.mime_tool.specs.Files.{Stored, bytes, closed, dangling, folder, nothing, special, unknown, unreadable}
@@ -31,14 +31,14 @@ use Rattle.mime_view.specs.declared.fault.CacheFault.{CacheFault}
 pub files_refused : (X : Type 0) (path : List ℕ) (IsRefusedFor : CacheFault → Type 0) (IsGiven : X → Type 0)
     (IsAnswered : List (List ℕ) → Run → Type 0) (files : List (List ℕ)) (a : Sinks) (s : Stop)
     → GivesOrRefuses {X = X} path IsRefusedFor IsGiven (Err s)
-    → Ends (λ fs. IsAnsweredOr path IsRefusedFor (IsAnswered fs)) files a a (Err s)
+    → EndsOverFiles (λ fs. IsAnsweredOr path IsRefusedFor (IsAnswered fs)) files a a (Err s)
 files_refused X path IsRefusedFor IsGiven IsAnswered files a stop.OutOfMemory p = inl (writes_nothing a)
 files_refused X path IsRefusedFor IsGiven IsAnswered files a stop.CannotWrite p = absurd p
 files_refused X path IsRefusedFor IsGiven IsAnswered files a (stop.Refused m) p =
     (silent, inr (p.0, p.1, ap (λ (t : List ℕ). stopped t silent) p.2), writes_nothing a)
 
 -- a run that looks at no file is one of a command over files
-pub ends_files : (P : Run → Type 0) (files : List (List ℕ)) (a b : Sinks) (r : Result ℕ Stop) → Ends (λ _. P) [] a b r → Ends (λ _. P) files a b r
+pub ends_files : (P : Run → Type 0) (files : List (List ℕ)) (a b : Sinks) (r : Result ℕ Stop) → EndsOverFiles (λ _. P) [] a b r → EndsOverFiles (λ _. P) files a b r
 ends_files P files a b (Ok status) p = p
 ends_files P files a b (Err stop.OutOfMemory) (inl p) = inl p
 ends_files P files a b (Err stop.OutOfMemory) (inr p) =
@@ -97,16 +97,16 @@ module _ (b : PlainDatabase) (output : Output) (order : Order) (file : List ℕ)
   module _ (name_only : Bool) (stored : List ℕ → Stored) (a : Sinks) where
     -- memory ran out before anything was written
     pub text_undone : (z : Sinks) (s : Stop) → ComesToText (looks name_only) (stored file) file a z (Err s)
-        → Ends (λ _. IsTypeLine (looks name_only) stored file) [] a z (Err s)
+        → EndsOverFiles (λ _. IsTypeLine (looks name_only) stored file) [] a z (Err s)
     text_undone z stop.OutOfMemory p = inl (writes_same a z p.0)
     text_undone z stop.CannotWrite p = let never : stop.CannotWrite ≡ stop.OutOfMemory = p.1 in absurd (cc)
     text_undone z (stop.Refused m) p = let never : stop.Refused m ≡ stop.OutOfMemory = p.1 in absurd (cc)
 
     -- what it came to is written
     pub text_written : (o : Explained) (y z : Sinks) (r : Result ℕ Stop) → ComesToText (looks name_only) (stored file) file a y (Ok o)
-        → Ends (λ _ run. run ≡ run_of_text (written output file) o) [] y z r
-        → Ends (λ _. IsTypeLine (looks name_only) stored file) [] a z r
+        → EndsOverFiles (λ _ run. run ≡ run_of_text (written output file) o) [] y z r
+        → EndsOverFiles (λ _. IsTypeLine (looks name_only) stored file) [] a z r
     text_written o y z r p q =
-        subst (λ (s : Sinks). Ends (λ _. IsTypeLine (looks name_only) stored file) [] s z r) p.0
+        subst (λ (s : Sinks). EndsOverFiles (λ _. IsTypeLine (looks name_only) stored file) [] s z r) p.0
         (ends_weaker (λ _ run. run ≡ run_of_text (written output file) o) (λ _. IsTypeLine (looks name_only) stored file) [] y z r
         (λ _ run is. subst (IsTypeLine (looks name_only) stored file) (sym is) (None, refl, p.1)) q)

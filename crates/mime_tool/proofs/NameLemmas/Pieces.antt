@@ -9,7 +9,7 @@ use Rattle.std.specs.Int.{from_bool}
 use Rattle.memchr.specs.Find.{NoneBefore, Nowhere, Passes, is_byte}
 use Rattle.mime_lookup.specs.Content.{Health}
 use Rattle.mime_tool.specs.Files.{Stored}
-use Rattle.mime_tool.specs.Names.{CutsPiece, Gives, IsAtEnd, Takes, TakesPiece, ending, has_no_zero}
+use Rattle.mime_tool.specs.Names.{CutsPiece, Gives, IsAtEnd, TakesBytes, TakesPiece, ending, has_no_zero}
 use Rattle.mime_tool.proofs.NameLemmas.FirstNames.{no_zero-append}
 use Rattle.mime_tool.proofs.NameLemmas.Takings.{at_end_before, gives_ended, gives_last, left_of, taken_front, takes-append}
 
@@ -48,7 +48,7 @@ length-ending piece false = length-append piece []
 -- a piece of a block is taken, with what ends it
 pub piece_taken : (block : List ℕ) (given : ℕ) (piece : List ℕ) (ended : Bool) (count : ℕ) (rest : Option (List ℕ)) (health : Health)
     → count ≡ length piece + from_bool ended → CutsPiece (drop given block) piece ended
-    → Takes (left_of (drop given block) rest health) (piece ++ ending ended) (left_of (drop (given + count) block) rest health)
+    → TakesBytes (left_of (drop given block) rest health) (piece ++ ending ended) (left_of (drop (given + count) block) rest health)
 piece_taken block given piece ended count rest health is cuts =
     let front = piece ++ ending ended in
     let split : drop given block ≡ front ++ cuts.1.0 = cuts.1.1 ∙ sym (append_assoc piece (ending ended) cuts.1.0) in
@@ -68,27 +68,27 @@ piece_drained block given piece count is cuts =
 -- ---- a name
 
 -- it grows by a piece that isn't ended
-pub name_grown : (before mid after : Stored) (name new : List ℕ) → has_no_zero name ≡ true → Takes before name mid → TakesPiece mid after name new false
-    → (has_no_zero new ≡ true) × Takes before new after
+pub name_grown : (before mid after : Stored) (name new : List ℕ) → has_no_zero name ≡ true → TakesBytes before name mid → TakesPiece mid after name new false
+    → (has_no_zero new ≡ true) × TakesBytes before new after
 name_grown before mid after name new free taken p =
-    let taken_piece = subst (λ (bs : List ℕ). Takes mid bs after) (append-nil p.0) p.3 in
+    let taken_piece = subst (λ (bs : List ℕ). TakesBytes mid bs after) (append-nil p.0) p.3 in
     rw (p.2) (no_zero-append name p.0 free p.1, takes-append before mid after name p.0 taken taken_piece)
 
 -- or by one that is
-pub name_ended : (before mid after : Stored) (name new : List ℕ) → has_no_zero name ≡ true → Takes before name mid → TakesPiece mid after name new true
+pub name_ended : (before mid after : Stored) (name new : List ℕ) → has_no_zero name ≡ true → TakesBytes before name mid → TakesPiece mid after name new true
     → Gives before new after
 name_ended before mid after name new free taken p =
-    let all = subst (λ (bs : List ℕ). Takes before bs after) (sym (append_assoc name p.0 (0 ∷ [])))
+    let all = subst (λ (bs : List ℕ). TakesBytes before bs after) (sym (append_assoc name p.0 (0 ∷ [])))
     (takes-append before mid after name (p.0 ++ 0 ∷ []) taken p.3) in
     rw (p.2) (gives_ended before after (name ++ p.0) (no_zero-append name p.0 free p.1) all)
 
 -- at the end of the list there is no last name where it is empty
-pub last_none : (a m : Stored) (name : List ℕ) (n : ℕ) → n ≡ length name → (n == 0) ≡ true → Takes a name m → IsAtEnd m → IsAtEnd a
+pub last_none : (a m : Stored) (name : List ℕ) (n : ℕ) → n ≡ length name → (n == 0) ≡ true → TakesBytes a name m → IsAtEnd m → IsAtEnd a
 last_none a m [] n size is p ended = at_end_before a m p ended
 last_none a m (x ∷ name) n size is p ended = absurd (grind (arith, nat_tests))
 
 -- and else it is given
-pub last_given : (a m c : Stored) (name : List ℕ) (n : ℕ) → n ≡ length name → (n == 0) ≡ false → has_no_zero name ≡ true → Takes a name m → IsAtEnd m → Takes m [] c
+pub last_given : (a m c : Stored) (name : List ℕ) (n : ℕ) → n ≡ length name → (n == 0) ≡ false → has_no_zero name ≡ true → TakesBytes a name m → IsAtEnd m → TakesBytes m [] c
     → Gives a name c
 last_given a m c [] n size is free p ended q = absurd (grind (arith, nat_tests))
 last_given a m c (x ∷ name) n size is free p ended q = gives_last a m c x name free p ended q

@@ -4,7 +4,7 @@ use Rattle.std.specs.Io.KnownBytes.{Consumes}
 use Rattle.std.specs.Io.KnownBytes as known
 use Rattle.mime_lookup.specs.Content.{Health, broken, sound, untold}
 use Rattle.mime_tool.specs.Listed.{IsUnlisted}
-use Rattle.mime_tool.specs.Names.{IsAtEnd, Takes}
+use Rattle.mime_tool.specs.Names.{IsAtEnd, TakesBytes}
 use Rattle.mime_tool.specs.Process.{given_by}
 use Rattle.mime_tool.proofs.NameLemmas.Takings.{left_of}
 
@@ -15,14 +15,14 @@ left_of-none (Some bs) health = refl
 
 -- a block is read, and nothing is taken
 pub block_read : (block : List ℕ) (rest rest' : Option (List ℕ)) (health health' : Health) → Consumes rest rest' block
-    → (health ≡ sound → health' ≡ sound) → (health ≡ broken → ⊥) → Takes (left_of [] rest health) [] (left_of block rest' health')
+    → (health ≡ sound → health' ≡ sound) → (health ≡ broken → ⊥) → TakesBytes (left_of [] rest health) [] (left_of block rest' health')
 block_read block None rest' health health' p s b = tt
 block_read block (Some bs) None health health' p s b = absurd p
 block_read block (Some bs) (Some more) sound health' p s b =
-    subst (λ (h : Health). Takes (left_of [] (Some bs) sound) [] (left_of block (Some more) h)) (sym (s refl))
-    (subst (λ (all : List ℕ). Takes (left_of [] (Some all) sound) [] (left_of block (Some more) sound)) (sym p) (same (block ++ more)))
+    subst (λ (h : Health). TakesBytes (left_of [] (Some bs) sound) [] (left_of block (Some more) h)) (sym (s refl))
+    (subst (λ (all : List ℕ). TakesBytes (left_of [] (Some all) sound) [] (left_of block (Some more) sound)) (sym p) (same (block ++ more)))
   where
-    same : (all : List ℕ) → Takes (given_by (Some all) sound) [] (given_by (Some all) sound)
+    same : (all : List ℕ) → TakesBytes (given_by (Some all) sound) [] (given_by (Some all) sound)
     same [] = ([], refl, refl)
     same (x ∷ xs) = (x ∷ xs, refl, refl)
 block_read block (Some bs) (Some more) broken health' p s b = absurd (b refl)

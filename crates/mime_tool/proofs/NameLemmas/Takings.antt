@@ -4,7 +4,7 @@ use Rattle.std.specs.Option.{option_map}
 use Rattle.mime_lookup.specs.Content.{Health, broken, sound, untold}
 use Rattle.mime_tool.specs.Files.{Stored, bytes, closed, dangling, folder, nothing, special, unknown, unreadable}
 use Rattle.mime_tool.specs.Listed.{IsUnlisted, listed}
-use Rattle.mime_tool.specs.Names.{Gives, IsAtEnd, Takes, has_no_zero}
+use Rattle.mime_tool.specs.Names.{Gives, IsAtEnd, TakesBytes, has_no_zero}
 use Rattle.mime_tool.specs.Process.{given_by}
 use Rattle.mime_tool.proofs.NameLemmas.FirstNames.{listed-alone, listed-ended}
 
@@ -14,7 +14,7 @@ left_of unread rest health = given_by (option_map (λ bs. unread ++ bs) rest) he
 
 -- a front of what was read is taken
 pub taken_front : (front unread : List ℕ) (rest : Option (List ℕ)) (health : Health)
-    → Takes (left_of (front ++ unread) rest health) front (left_of unread rest health)
+    → TakesBytes (left_of (front ++ unread) rest health) front (left_of unread rest health)
 taken_front front unread None health = tt
 taken_front [] [] (Some []) sound = ([], refl, refl)
 taken_front [] [] (Some (r ∷ rs)) sound = (r ∷ rs, refl, refl)
@@ -33,13 +33,13 @@ taken_front [] (u ∷ us) (Some rs) untold = tt
 taken_front (b ∷ front) unread (Some rs) untold = tt
 
 -- what is taken twice
-pub takes-append : (a b c : Stored) (xs ys : List ℕ) → Takes a xs b → Takes b ys c → Takes a (xs ++ ys) c
+pub takes-append : (a b c : Stored) (xs ys : List ℕ) → TakesBytes a xs b → TakesBytes b ys c → TakesBytes a (xs ++ ys) c
 takes-append unknown b c xs ys p q = tt
 takes-append (bytes bs) b c xs ys p q =
-    let left = subst (λ (s : Stored). Takes s ys c) p.2 q in
+    let left = subst (λ (s : Stored). TakesBytes s ys c) p.2 q in
     (left.0, p.1 ∙ (ap (λ (rest : List ℕ). xs ++ rest) left.1 ∙ sym (append_assoc xs ys left.0)), left.2)
 takes-append unreadable b c xs ys p q =
-    let left = subst (λ (s : Stored). Takes s ys c) p.1 q in
+    let left = subst (λ (s : Stored). TakesBytes s ys c) p.1 q in
     (rw (p.0, left.0) refl, left.1)
 takes-append nothing b c xs ys p q = absurd p
 takes-append dangling b c xs ys p q = absurd p
@@ -48,11 +48,11 @@ takes-append (special kind) b c xs ys p q = absurd p
 takes-append closed b c xs ys p q = absurd p
 
 -- what is taken, and then nothing
-pub takes_kept : (a b c : Stored) (xs : List ℕ) → Takes a xs b → Takes b [] c → Takes a xs c
-takes_kept a b c xs p q = subst (λ (bs : List ℕ). Takes a bs c) (append-nil xs) (takes-append a b c xs [] p q)
+pub takes_kept : (a b c : Stored) (xs : List ℕ) → TakesBytes a xs b → TakesBytes b [] c → TakesBytes a xs c
+takes_kept a b c xs p q = subst (λ (bs : List ℕ). TakesBytes a bs c) (append-nil xs) (takes-append a b c xs [] p q)
 
 -- a list of which bytes can be taken isn't read either where what is left isn't
-pub unlisted_before : (a b : Stored) (xs : List ℕ) → Takes a xs b → IsUnlisted b → IsUnlisted a
+pub unlisted_before : (a b : Stored) (xs : List ℕ) → TakesBytes a xs b → IsUnlisted b → IsUnlisted a
 unlisted_before (bytes bs) b xs p q = subst IsUnlisted p.2 q
 unlisted_before unknown b xs p q = tt
 unlisted_before unreadable b xs p q = tt
@@ -63,7 +63,7 @@ unlisted_before (special kind) b xs p q = tt
 unlisted_before closed b xs p q = tt
 
 -- a name that is ended is given
-pub gives_ended : (a b : Stored) (name : List ℕ) → has_no_zero name ≡ true → Takes a (name ++ 0 ∷ []) b → Gives a name b
+pub gives_ended : (a b : Stored) (name : List ℕ) → has_no_zero name ≡ true → TakesBytes a (name ++ 0 ∷ []) b → Gives a name b
 gives_ended unknown b name free p = tt
 gives_ended (bytes bs) b name free p =
     (p.0, ap listed (p.1 ∙ append_assoc name (0 ∷ []) p.0) ∙ listed-ended name p.0 free, p.2)
@@ -76,12 +76,12 @@ gives_ended (special kind) b name free p = absurd p
 gives_ended closed b name free p = absurd p
 
 -- so is a last one that isn't ended
-pub gives_last : (a b c : Stored) (x : ℕ) (name : List ℕ) → has_no_zero (x ∷ name) ≡ true → Takes a (x ∷ name) b → IsAtEnd b → Takes b [] c
+pub gives_last : (a b c : Stored) (x : ℕ) (name : List ℕ) → has_no_zero (x ∷ name) ≡ true → TakesBytes a (x ∷ name) b → IsAtEnd b → TakesBytes b [] c
     → Gives a (x ∷ name) c
 gives_last unknown b c x name free p ended q = tt
 gives_last (bytes bs) b c x name free p ended q =
     let none : p.0 ≡ [] = subst IsAtEnd p.2 ended in
-    let left = subst (λ (s : Stored). Takes s [] c) p.2 q in
+    let left = subst (λ (s : Stored). TakesBytes s [] c) p.2 q in
     let rest : left.0 ≡ [] = sym left.1 ∙ none in (
       left.0,
       rw rest (ap listed (p.1 ∙ ap (λ (rest : List ℕ). (x ∷ name) ++ rest) none ∙ append-nil (x ∷ name)) ∙ listed-alone x name free),
@@ -95,7 +95,7 @@ gives_last (special kind) b c x name free p ended q = absurd p
 gives_last closed b c x name free p ended q = absurd p
 
 -- a list is at its end where nothing was taken and what is left is
-pub at_end_before : (a b : Stored) → Takes a [] b → IsAtEnd b → IsAtEnd a
+pub at_end_before : (a b : Stored) → TakesBytes a [] b → IsAtEnd b → IsAtEnd a
 at_end_before unknown b p ended = tt
 at_end_before (bytes bs) b p ended =
     let none : p.0 ≡ [] = subst IsAtEnd p.2 ended in

@@ -3,7 +3,7 @@ use Rattle.std.proofs.Common.{ℕ, List, [], ◌++◌, inr, Option, Some, None, 
 use Rattle.mime_base.specs.Database.{PlainDatabase, plain_database}
 use Rattle.mime_base.specs.declared.database.Database.{Database}
 use Rattle.mime_request.specs.Request.{PlainDirectories}
-use Rattle.mime_tool.specs.Desk.{Ends, State, Works}
+use Rattle.mime_tool.specs.Desk.{EndsOverFiles, State, Works}
 use Rattle.mime_tool.specs.Directories.{IsCommand, IsDatabaseOf, IsUserDatabase, not_text}
 use Rattle.mime_tool.specs.Environment.{PlainEnvironment}
 use Rattle.mime_tool.specs.Files.{Stored}
@@ -52,7 +52,7 @@ unloaded_cut stored kept e dirs IsOver files a b none (Some database) messages i
 pub command_unloaded : (X : Type 0) (plain : X → PlainDatabase) (stored : List ℕ → Stored)
     (kept : Option (List ℕ)) (e : Option PlainEnvironment) (dirs : PlainDirectories) (IsOver : Over)
     (files : List (List ℕ)) (a b : Sinks) (s : Stop) → ((database : PlainDatabase) → (run : Run) × IsOver database [] run)
-    → Loads plain (IsDatabaseOf stored kept e dirs) a b (Err s) → Ends (IsCommand stored kept e dirs IsOver) files a b (Err s)
+    → Loads plain (IsDatabaseOf stored kept e dirs) a b (Err s) → EndsOverFiles (IsCommand stored kept e dirs IsOver) files a b (Err s)
 command_unloaded X plain stored kept e dirs IsOver files a b stop.OutOfMemory none p =
     unloaded_cut stored kept e dirs IsOver files a b none p.0 p.1 p.2 p.3
 command_unloaded X plain stored kept e dirs IsOver files a b stop.CannotWrite none p = p
@@ -63,8 +63,8 @@ command_unloaded X plain stored kept e dirs IsOver files a b (stop.Refused m) no
 pub command_over : (X : Type 0) (plain : X → PlainDatabase) (stored : List ℕ → Stored) (kept : Option (List ℕ)) (e : Option PlainEnvironment) (dirs : PlainDirectories) (IsOver : Over)
     (files : List (List ℕ)) (database : X) (a b c : Sinks) (r : Result ℕ Stop)
     → (run : Run) × IsOver (plain database) [] run
-    → Loads plain (IsDatabaseOf stored kept e dirs) a b (Ok database) → Ends (IsOver (plain database)) files b c r
-    → Ends (IsCommand stored kept e dirs IsOver) files a c r
+    → Loads plain (IsDatabaseOf stored kept e dirs) a b (Ok database) → EndsOverFiles (IsOver (plain database)) files b c r
+    → EndsOverFiles (IsCommand stored kept e dirs IsOver) files a c r
 command_over X plain stored kept e dirs IsOver files database a b c r none p q =
     ends_said (IsOver (plain database)) (IsCommand stored kept e dirs IsOver) files p.0 a b c r
     (λ fs run is. (Some (plain database), p.0, p.1, (run, is, refl))) none p.2 q

@@ -2,7 +2,7 @@
 use Rattle.std.proofs.Common.{◌≡◌, ◌≢◌, ◌∙◌, ◌≤◌, ◌⊎◌, ℕ, true, false, List, [], Option, Some, None, Result, Ok, Err, ap, arith, inl, inr}
 use Rattle.std.proofs.Common.{is_some, refl, subst, sym}
 use Rattle.std.proofs.lemmas.Bool.{false≢true}
-use Rattle.mime_tool.specs.Desk.{Ends}
+use Rattle.mime_tool.specs.Desk.{EndsOverFiles}
 use Rattle.mime_tool.specs.Finish.{Finishes, IsCut, IsCutAndSaid, Sinks, Writes}
 use Rattle.mime_tool.specs.Run.{Run, out_of_memory, stopped, stops}
 use Rattle.mime_tool.specs.Sink.{Flush, IsHandedOn, Wrote, WroteFront, WroteMessage}
@@ -28,7 +28,7 @@ known_front None y bs w known = let bad : false ≡ true = known in cc
 known_front (Some xs) y bs w known = ap is_some w.3
 
 -- so does standard output over a command
-pub ends_known : (P : List (List ℕ) → Run → Type 0) (files : List (List ℕ)) (a b : Sinks) (r : Result ℕ Stop) → Ends P files a b r
+pub ends_known : (P : List (List ℕ) → Run → Type 0) (files : List (List ℕ)) (a b : Sinks) (r : Result ℕ Stop) → EndsOverFiles P files a b r
     → is_some a.out ≡ true → is_some b.out ≡ true
 ends_known P files a b (Ok status) p known = known_wrote a.out b.out p.0.out p.4.0 known
 ends_known P files a b (Err stop.OutOfMemory) (inl p) known = known_wrote a.out b.out [] p.0 known
@@ -58,7 +58,7 @@ not_four status is four = omega (arith, is, four)
 
 -- a status after the flush is that of the command
 pub finishes_done : (P : List (List ℕ) → Run → Type 0) (files : List (List ℕ)) (capacity : Option ℕ) (a b : Sinks) (o : Option (List ℕ)) (flush : Flush)
-    (ended : Result ℕ Stop) (status : ℕ) → Ends P files a b ended → Wrote b.out o []
+    (ended : Result ℕ Stop) (status : ℕ) → EndsOverFiles P files a b ended → Wrote b.out o []
     → IsFlushed flush ended (Ok status) → Finishes P files capacity a (record { out = o; err = b.err }) status
 finishes_done P files capacity a b o flush (Ok s) status p kept (inl f) =
     let is = same_ok status s f.1 ∙ p.3 in
@@ -97,7 +97,7 @@ refused_said P files capacity a b o e text status run is w kept (inr t) =
 
 -- a stop of the command was told
 stop_told : (P : List (List ℕ) → Run → Type 0) (files : List (List ℕ)) (capacity : Option ℕ) (a b : Sinks) (o e : Option (List ℕ)) (s : Stop) (status : ℕ)
-    → Ends P files a b (Err s) → is_some a.out ≡ true → Wrote b.out o []
+    → EndsOverFiles P files a b (Err s) → is_some a.out ≡ true → Wrote b.out o []
     → TellsStop s capacity b.err e status → Finishes P files capacity a (record { out = o; err = e }) status
 stop_told P files capacity a b o e stop.OutOfMemory status p known kept told = inr (told.0, cut_said P files capacity a b o e p kept told.1)
 stop_told P files capacity a b o e stop.CannotWrite status p known kept told = absurd (unknown_known a.out p known)
@@ -106,14 +106,14 @@ stop_told P files capacity a b o e (stop.Refused m) status p known kept told =
 
 -- memory ran out in the flush, after the command was done
 unflushed_told : (P : List (List ℕ) → Run → Type 0) (files : List (List ℕ)) (capacity : Option ℕ) (a b : Sinks) (o e : Option (List ℕ)) (s : ℕ) (status : ℕ)
-    → Ends P files a b (Ok s) → Wrote b.out o []
+    → EndsOverFiles P files a b (Ok s) → Wrote b.out o []
     → TellsStop stop.OutOfMemory capacity b.err e status → Finishes P files capacity a (record { out = o; err = e }) status
 unflushed_told P files capacity a b o e s status p kept told =
     inr (told.0, cut_said P files capacity a b o e (cut_all P files a b p.0 p.1 (writes_all a b p.0 p.4)) kept told.1)
 
 -- a stop after the flush was told
 pub finishes_told : (P : List (List ℕ) → Run → Type 0) (files : List (List ℕ)) (capacity : Option ℕ) (a b : Sinks) (o e : Option (List ℕ)) (flush : Flush)
-    (ended : Result ℕ Stop) (s : Stop) (status : ℕ) → Ends P files a b ended → is_some a.out ≡ true
+    (ended : Result ℕ Stop) (s : Stop) (status : ℕ) → EndsOverFiles P files a b ended → is_some a.out ≡ true
     → Wrote b.out o [] → IsFlushed flush ended (Err s) → TellsStop s capacity b.err e status
     → Finishes P files capacity a (record { out = o; err = e }) status
 finishes_told P files capacity a b o e flush (Ok t) s status p known kept (inl f) told = absurd (ok_err t s (sym f.1))

@@ -1,7 +1,7 @@
 -- How the parts of a command come to its end.
 use Rattle.std.proofs.Common.{◌≡◌, ◌∙◌, ℕ, List, [], ◌∷◌, ◌++◌, inl, inr, Ok, Err, Result, append_assoc}
 use Rattle.std.proofs.Common.{append-nil, max, nat_le, refl, sym, ap, subst}
-use Rattle.mime_tool.specs.Desk.{Ends}
+use Rattle.mime_tool.specs.Desk.{EndsOverFiles}
 use Rattle.mime_tool.specs.Finish.{IsCut, IsPart, Sinks, Writes, WritesFront}
 use Rattle.mime_tool.specs.Run.{IsEach, Run, joined, said, silent, stopped}
 use Rattle.mime_tool.specs.Stop.{message}
@@ -71,7 +71,7 @@ cut_said P Q files text a b c more none w (inr p) = inr (
 -- the files are answered after that
 pub ends_said : (P Q : List (List ℕ) → Run → Type 0) (files : List (List ℕ)) (text : List ℕ) (a b c : Sinks) (r : Result ℕ Stop)
     → ((fs : List (List ℕ)) (run : Run) → P fs run → Q fs (joined (said text) run)) → (run : Run) × P [] run
-    → Writes a b (said text) → Ends P files b c r → Ends Q files a c r
+    → Writes a b (said text) → EndsOverFiles P files b c r → EndsOverFiles Q files a c r
 ends_said P Q files text a b c (Ok status) more none w p = (
   joined (said text) p.0,
   more files p.0 p.1,
@@ -92,8 +92,8 @@ ends_said P Q files text a b c (Err (stop.Refused m)) more none w p = (
 -- ---- one file
 
 -- a run over one file is one over each of it
-pub ends_one : (P : List ℕ → Run → Type 0) (file : List ℕ) (a b : Sinks) (r : Result ℕ Stop) → Ends (λ _. P file) [] a b r
-    → Ends (IsEach P) (file ∷ []) a b r
+pub ends_one : (P : List ℕ → Run → Type 0) (file : List ℕ) (a b : Sinks) (r : Result ℕ Stop) → EndsOverFiles (λ _. P file) [] a b r
+    → EndsOverFiles (IsEach P) (file ∷ []) a b r
 ends_one P file a b (Ok status) p = (p.0, each_one P file p.0 p.1, p.2, p.3, p.4)
 ends_one P file a b (Err stop.OutOfMemory) (inl p) = inl p
 ends_one P file a b (Err stop.OutOfMemory) (inr p) =
@@ -104,9 +104,9 @@ ends_one P file a b (Err (stop.Refused m)) p = (p.0, each_one P file (stopped (m
 -- ---- a file after others
 
 -- the file is answered
-pub ends_more : (P : List ℕ → Run → Type 0) (xs : List (List ℕ)) (file : List ℕ) (a b c : Sinks) (s t : ℕ) → Ends (IsEach P) xs a b (Ok s)
-    → Ends (λ _. P file) [] b c (Ok t)
-    → Ends (IsEach P) (xs ++ file ∷ []) a c (Ok (max s t))
+pub ends_more : (P : List ℕ → Run → Type 0) (xs : List (List ℕ)) (file : List ℕ) (a b c : Sinks) (s t : ℕ) → EndsOverFiles (IsEach P) xs a b (Ok s)
+    → EndsOverFiles (λ _. P file) [] b c (Ok t)
+    → EndsOverFiles (IsEach P) (xs ++ file ∷ []) a c (Ok (max s t))
 ends_more P xs file a b c s t p q = (
   joined p.0 q.0,
   each-append P xs (file ∷ []) p.0 q.0 p.1 p.2 (each_one P file q.0 q.1),
@@ -118,7 +118,7 @@ ends_more P xs file a b c s t p q = (
 
 -- memory runs out at the file
 cut_at : (P : List ℕ → Run → Type 0) (xs : List (List ℕ)) (file : List ℕ) (ys : List (List ℕ)) (a b c : Sinks) (s : ℕ)
-    → Ends (IsEach P) xs a b (Ok s) → IsCut (λ _. P file) [] b c
+    → EndsOverFiles (IsEach P) xs a b (Ok s) → IsCut (λ _. P file) [] b c
     → IsCut (IsEach P) (xs ++ (file ∷ ys)) a c
 cut_at P xs file ys a b c s p (inl q) =
     inr (p.0, record { front = xs; rest = file ∷ ys; split = refl; is_run = p.1 }, writes_all a c p.0 (writes_kept a b c p.0 p.4 q))
@@ -135,8 +135,8 @@ cut_at P xs file ys a b c s p (inr q) = inr (
 
 -- the command stops at the file
 pub ends_stop : (P : List ℕ → Run → Type 0) (xs : List (List ℕ)) (file : List ℕ) (ys : List (List ℕ)) (a b c : Sinks) (s : ℕ) (e : Stop)
-    → Ends (IsEach P) xs a b (Ok s) → Ends (λ _. P file) [] b c (Err e)
-    → Ends (IsEach P) (xs ++ (file ∷ ys)) a c (Err e)
+    → EndsOverFiles (IsEach P) xs a b (Ok s) → EndsOverFiles (λ _. P file) [] b c (Err e)
+    → EndsOverFiles (IsEach P) (xs ++ (file ∷ ys)) a c (Err e)
 ends_stop P xs file ys a b c s stop.OutOfMemory p q = cut_at P xs file ys a b c s p q
 ends_stop P xs file ys a b c s stop.CannotWrite p q = wrote_unknown a.out b.out p.0.out p.4.0 q
 ends_stop P xs file ys a b c s (stop.Refused m) p q =

@@ -1,6 +1,6 @@
 -- How a part of a command comes to its end that goes before another.
 use Rattle.std.proofs.Common.{◌≡◌, ◌∙◌, ℕ, true, false, List, [], ◌++◌, ap, inl, inr, max, Ok, Err, refl, Result, subst, arith}
-use Rattle.mime_tool.specs.Desk.{Ends}
+use Rattle.mime_tool.specs.Desk.{EndsOverFiles}
 use Rattle.mime_tool.specs.Finish.{Sinks, Writes, WritesFront}
 use Rattle.mime_tool.specs.Run.{Run, joined, silent, stopped, stops}
 use Rattle.mime_tool.specs.Stop.{message}
@@ -24,8 +24,8 @@ pub record IsFront (P : Run → Type 0) (Q W : List (List ℕ) → Run → Type 
 
 module _ (P : Run → Type 0) (Q W : List (List ℕ) → Run → Type 0) (front : List (List ℕ) → List (List ℕ)) (f : IsFront P Q W front) where
   -- both are done, as far as the second is
-  pub ends_followed : (files : List (List ℕ)) (a b c : Sinks) (status : ℕ) (r : Result ℕ Stop) → Ends (λ _. P) [] a b (Ok status)
-      → Ends Q files b c r → Ends W (front files) a c (raised status r)
+  pub ends_followed : (files : List (List ℕ)) (a b c : Sinks) (status : ℕ) (r : Result ℕ Stop) → EndsOverFiles (λ _. P) [] a b (Ok status)
+      → EndsOverFiles Q files b c r → EndsOverFiles W (front files) a c (raised status r)
   ends_followed files a b c status (Ok s) p q = (
     joined p.0 q.0,
     f.more files p.0 q.0 p.1 p.2 q.1,
@@ -61,7 +61,7 @@ module _ (P : Run → Type 0) (Q W : List (List ℕ) → Run → Type 0) (front 
       )
 
   -- the first isn't
-  pub ends_first : (files : List (List ℕ)) (a b : Sinks) (e : Stop) → Ends (λ _. P) [] a b (Err e) → Ends W (front files) a b (Err e)
+  pub ends_first : (files : List (List ℕ)) (a b : Sinks) (e : Stop) → EndsOverFiles (λ _. P) [] a b (Err e) → EndsOverFiles W (front files) a b (Err e)
   ends_first files a b stop.OutOfMemory (inl p) = inl p
   ends_first files a b stop.OutOfMemory (inr p) =
       let part = f.parts [] files in
@@ -72,7 +72,7 @@ module _ (P : Run → Type 0) (Q W : List (List ℕ) → Run → Type 0) (front 
 
 -- nothing is written before
 pub ends_after_nothing : (P : List (List ℕ) → Run → Type 0) (files : List (List ℕ)) (a b c : Sinks) (r : Result ℕ Stop) → Writes a b silent
-    → Ends P files b c r → Ends P files a c r
+    → EndsOverFiles P files b c r → EndsOverFiles P files a c r
 ends_after_nothing P files a b c (Ok s) w p =
     (p.0, p.1, p.2, p.3, subst (Writes a c) (silent-joined p.0) (writes-append a b c silent p.0 w p.4))
 ends_after_nothing P files a b c (Err stop.OutOfMemory) w (inl p) = inl (writes_kept a b c silent w p)

@@ -6,7 +6,7 @@ use Rattle.clap.specs.declared.error.Error.{Error}
 use Rattle.mime_request.specs.Request.{PlainRequest, PlainSubjects, Meaning, Means, asks, build, icon, is_a, list, of_files, of_input, of_list, plain}
 use Rattle.mime_request.specs.Request.{check, explain, plain_request, refused, type_of}
 use Rattle.mime_request.specs.declared.request.Request.{Request}
-use Rattle.mime_tool.specs.Desk.{Ends, State, Works}
+use Rattle.mime_tool.specs.Desk.{EndsOverFiles, State, Works}
 use Rattle.mime_tool.specs.Files.{Stored, Writing}
 use Rattle.mime_tool.specs.Finish.{Finishes, Sinks}
 use Rattle.mime_tool.specs.Heard.{IsRefusedRun, IsReply, LeavesHeard, Replies, heard_names}
@@ -50,7 +50,7 @@ replies_named v raws q a b r none p =
 
 -- and so is the message on a word
 pub replies_no_text : (v : PlainProcess) (raws : List RawWord) (q : PlainRequest) (n : ℕ) (a b : State) (r : Result ℕ Stop)
-    → misplaced raws (asked_files q) ≡ Some n → Works (Ends (λ _ run. run ≡ mistaken (not_text n)) []) a b r
+    → misplaced raws (asked_files q) ≡ Some n → Works (EndsOverFiles (λ _ run. run ≡ mistaken (not_text n)) []) a b r
     → Replies v (heard_in raws (asks q)) a b r
 replies_no_text v raws q n a b r some p =
     subst (λ (h : Heard). Replies v h a b r) (ap (λ (o : Option ℕ). placed o raws q) (sym some) ∙ heard_placed raws q)
@@ -64,8 +64,8 @@ replies_asked v raws (refused kinds) q a b r meant p = absurd meant
 
 -- an error of the words is said, or which of them is no text
 refused_said : (v : PlainProcess) (writes : List ℕ → List ℕ → Writing) (stored after : List ℕ → Stored) (raws : List RawWord) (m : Meaning)
-    (e : Error) (a b : Sinks) (r : Result ℕ Stop) → Means m (Err e) → Ends (λ _. IsRefusedRun raws (kind_of e)) [] a b r
-    → Ends (IsReply v writes stored after (heard_in raws m)) (heard_names v stored (heard_in raws m)) a b r
+    (e : Error) (a b : Sinks) (r : Result ℕ Stop) → Means m (Err e) → EndsOverFiles (λ _. IsRefusedRun raws (kind_of e)) [] a b r
+    → EndsOverFiles (IsReply v writes stored after (heard_in raws m)) (heard_names v stored (heard_in raws m)) a b r
 refused_said v writes stored after [] m e a b r meant p = error_shown v writes stored after m e a b r meant p
 refused_said v writes stored after (raw ∷ raws) (asks x) e a b (Ok status) meant p = absurd (p.1.0 meant)
 refused_said v writes stored after (raw ∷ raws) (asks x) e a b (Err stop.OutOfMemory) meant (inl p) = inl p
@@ -91,7 +91,7 @@ leaves_heard v (raw ∷ raws) (asks q) old new same = leaves_placed v (misplaced
 
 -- words that are refused are replied to
 pub replies_refused : (v : PlainProcess) (raws : List RawWord) (m : Meaning) (e : Error) (a b : State) (r : Result ℕ Stop)
-    → Means m (Err e) → Works (Ends (λ _. IsRefusedRun raws (kind_of e)) []) a b r → Replies v (heard_in raws m) a b r
+    → Means m (Err e) → Works (EndsOverFiles (λ _. IsRefusedRun raws (kind_of e)) []) a b r → Replies v (heard_in raws m) a b r
 replies_refused v raws m e a b r meant p = record {
   same_setting = p.same_setting;
   sinks = refused_said v a.setting.writes a.stored b.stored raws m e a.sinks b.sinks r meant p.sinks;

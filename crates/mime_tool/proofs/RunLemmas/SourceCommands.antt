@@ -8,7 +8,7 @@ use Rattle.mime_request.specs.Request.{PlainDirectories, PlainSource, cache_of, 
 use Rattle.mime_base.specs.Format.Room.{room}
 use Rattle.mime_base.specs.Format.Spells.{cache_limit}
 use Rattle.mime_tool.specs.Build.{GivesCache, GivesFitting, IsCacheOf}
-use Rattle.mime_tool.specs.Desk.{Ends, State, Works}
+use Rattle.mime_tool.specs.Desk.{EndsOverFiles, State, Works}
 use Rattle.mime_tool.specs.Directories.{IsDatabaseOf}
 use Rattle.mime_tool.specs.Environment.{PlainEnvironment}
 use Rattle.mime_tool.specs.Files.{Stored}
@@ -37,7 +37,7 @@ fitting_cut IsOver database = (cut_short, inr (inr refl))
 
 -- it doesn't fit, or memory ran out
 pub unfitting : (X : Type 0) (IsGiven : X → Type 0) (IsOver : OverFiles) (database : PlainDatabase) (files : List (List ℕ)) (a : Sinks)
-    (s : Stop) → GivesFitting database IsGiven (Err s) → Ends (IsOverFitting IsOver database) files a a (Err s)
+    (s : Stop) → GivesFitting database IsGiven (Err s) → EndsOverFiles (IsOverFitting IsOver database) files a a (Err s)
 unfitting X IsGiven IsOver database files a stop.OutOfMemory p = inl (writes_nothing a)
 unfitting X IsGiven IsOver database files a stop.CannotWrite p = absurd p
 unfitting X IsGiven IsOver database files a (stop.Refused m) p =
@@ -45,7 +45,7 @@ unfitting X IsGiven IsOver database files a (stop.Refused m) p =
 
 -- it fits, and a run over it comes to its end
 pub ends_fitting : (IsOver : OverFiles) (database : PlainDatabase) (files : List (List ℕ)) (a b : Sinks) (r : Result ℕ Stop)
-    → room database ≤ cache_limit → Ends IsOver files a b r → Ends (IsOverFitting IsOver database) files a b r
+    → room database ≤ cache_limit → EndsOverFiles IsOver files a b r → EndsOverFiles (IsOverFitting IsOver database) files a b r
 ends_fitting IsOver database files a b r fits p =
     ends_weaker IsOver (IsOverFitting IsOver database) files a b r (λ fs run is. inr (inl (fits, is))) p
 
@@ -56,7 +56,7 @@ by_made IsOver database files run = (cache : List ℕ) × IsMade database cache 
 -- what is asked isn't read or made
 pub source_unread : (stored : List ℕ → Stored) (e : Option PlainEnvironment) (source : PlainSource) (IsOver : OverSource)
     (files : List (List ℕ)) (a b : Sinks) (s : Stop) → ReadsSource stored e source a b (Err s)
-    → Ends (IsSourceCommand stored e source IsOver) files a b (Err s)
+    → EndsOverFiles (IsSourceCommand stored e source IsOver) files a b (Err s)
 source_unread stored e (cache_of path) IsOver files a b s p = cache_unread stored path (IsOver path) files a b s p
 source_unread stored e (made_of dirs) IsOver files a b s (inl p) =
     command_unloaded PlainDatabase (λ d. d) stored None e dirs (IsOverMade (IsOver [])) files a b s
@@ -69,7 +69,7 @@ source_unread stored e (made_of dirs) IsOver files a b s (inr p) =
 -- it is, and a run over it comes to its end
 pub source_read : (stored : List ℕ → Stored) (e : Option PlainEnvironment) (source : PlainSource) (IsOver : OverSource)
     (files : List (List ℕ)) (v : Vec ℕ Global) (a b c : Sinks) (r : Result ℕ Stop) → ReadsSource stored e source a b (Ok v)
-    → Ends (IsOver (path_of source) v.items) files b c r → Ends (IsSourceCommand stored e source IsOver) files a c r
+    → EndsOverFiles (IsOver (path_of source) v.items) files b c r → EndsOverFiles (IsSourceCommand stored e source IsOver) files a c r
 source_read stored e (cache_of path) IsOver files v a b c r p q = cache_read stored path (IsOver path) files v a b c r p q
 source_read stored e (made_of dirs) IsOver files v a b c r p q =
     command_over PlainDatabase (λ d. d) stored None e dirs (IsOverMade (IsOver [])) files p.0 a b c r

@@ -3,7 +3,7 @@ use Rattle.std.proofs.Common.{◌≡◌, ◌∙◌, ℕ, ◌+◌, ◌<◌, List,
 use Rattle.std.proofs.Common.{subst, sym, take}
 use Rattle.std.proofs.lemmas.List.{map-append, take-append-drop, take_more}
 use Rattle.clap.specs.Walk.{texts}
-use Rattle.mime_tool.specs.Desk.{Ends}
+use Rattle.mime_tool.specs.Desk.{EndsOverFiles}
 use Rattle.mime_tool.specs.Finish.{Sinks}
 use Rattle.mime_tool.specs.Run.{IsEach, Run}
 use Rattle.mime_tool.specs.declared.stop.Stop.{Stop}
@@ -24,19 +24,19 @@ texts-more names i d lt =
 
 -- the file at an index is answered, by what f makes of its text
 pub ends_more_at : (f : List ℕ → List ℕ) (P : List ℕ → Run → Type 0) (names : List (Bor (List ℕ))) (i : ℕ) (d : Bor (List ℕ)) → i < length names
-    → (a b c : Sinks) (s t : ℕ) → Ends (IsEach P) (map f (texts (take i names))) a b (Ok s)
-    → Ends (λ _. P (f (get_or names i d).now)) [] b c (Ok t) → Ends (IsEach P) (map f (texts (take (i + 1) names))) a c (Ok (max s t))
+    → (a b c : Sinks) (s t : ℕ) → EndsOverFiles (IsEach P) (map f (texts (take i names))) a b (Ok s)
+    → EndsOverFiles (λ _. P (f (get_or names i d).now)) [] b c (Ok t) → EndsOverFiles (IsEach P) (map f (texts (take (i + 1) names))) a c (Ok (max s t))
 ends_more_at f P names i d lt a b c s t p q =
-    subst (λ (fs : List (List ℕ)). Ends (IsEach P) fs a c (Ok (max s t)))
+    subst (λ (fs : List (List ℕ)). EndsOverFiles (IsEach P) fs a c (Ok (max s t)))
     (sym (ap (map f) (texts-more names i d lt) ∙ map-append f (texts (take i names)) ((get_or names i d).now ∷ [])))
     (ends_more P (map f (texts (take i names))) (f (get_or names i d).now) a b c s t p q)
 
 -- the command stops at the file of an index
 pub ends_stop_at : (f : List ℕ → List ℕ) (P : List ℕ → Run → Type 0) (names : List (Bor (List ℕ))) (i : ℕ) (d : Bor (List ℕ)) → i < length names
-    → (a b c : Sinks) (s : ℕ) (e : Stop) → Ends (IsEach P) (map f (texts (take i names))) a b (Ok s)
-    → Ends (λ _. P (f (get_or names i d).now)) [] b c (Err e) → Ends (IsEach P) (map f (texts names)) a c (Err e)
+    → (a b c : Sinks) (s : ℕ) (e : Stop) → EndsOverFiles (IsEach P) (map f (texts (take i names))) a b (Ok s)
+    → EndsOverFiles (λ _. P (f (get_or names i d).now)) [] b c (Err e) → EndsOverFiles (IsEach P) (map f (texts names)) a c (Err e)
 ends_stop_at f P names i d lt a b c s e p q =
     let rest = texts (drop (i + 1) names) in
-    subst (λ (fs : List (List ℕ)). Ends (IsEach P) fs a c (Err e))
+    subst (λ (fs : List (List ℕ)). EndsOverFiles (IsEach P) fs a c (Err e))
     (sym (ap (map f) (texts-split names i d lt) ∙ map-append f (texts (take i names)) ((get_or names i d).now ∷ rest)))
     (ends_stop P (map f (texts (take i names))) (f (get_or names i d).now) (map f rest) a b c s e p q)

@@ -15,8 +15,7 @@ ghost use Rattle.mime_tool.specs.ExplainSteps.{IsReady, ReadsEnough, bytes_of, d
 use super::Explaining;
 use mime_base::{Counted, Host, Meter, TEXTUAL_FRONT};
 use mime_load::{Lists, sections_extent};
-use mime_lookup::{Cause, Content, by_bytes, read_front};
-use mime_view::{Budget, Cache};
+use mime_lookup::{Cause, Content, IndexedCache, by_bytes, read_front};
 use std::alloc::Global;
 
 /// The front of a content that magic can look at, if there is a content.
@@ -60,9 +59,10 @@ fn sniff<'b>(explaining: Explaining<'_, '_, 'b>, front: &[u8]) -> Option<(&'b [u
     ensures section { plain_found result ≡ first_magic (database_of explaining.entry).sections front.now Little }
     ensures text { IfSome result (λ section. IsCacheText explaining.entry.bytes.now section.0.now) }
 {
-    let cache = opened(explaining.bytes, explaining.lists);
+    let indexed = opened(explaining.bytes, explaining.lists);
     let mut meter = Meter::new();
-    let mut budget = Budget::of(&cache);
+    let mut budget = indexed.budget();
+    let cache = indexed.cache();
     match cache.sniff(front, Host::Little, &mut meter, &mut budget) {
         Ok(section) => section,
         Err(_) => unreachable!(),
@@ -99,25 +99,25 @@ fn unalias<'b>(explaining: Explaining<'_, '_, 'b>, kind: &'b [u8]) -> &'b [u8]
     ensures resolved { result.now ≡ resolved (database_of explaining.entry).aliases kind.entry.now }
     ensures short { length result.now ≤ 255 }
 {
-    let cache = opened(explaining.bytes, explaining.lists);
+    let indexed = opened(explaining.bytes, explaining.lists);
     let mut meter = Meter::new();
-    let mut budget = Budget::of(&cache);
-    match cache.unalias(kind, &mut meter, &mut budget) {
+    let mut budget = indexed.budget();
+    match indexed.unalias(kind, &mut meter, &mut budget) {
         Ok(kind) => kind,
         Err(_) => unreachable!(),
     }
 }
 
 /// The cache of which these lists were read back.
-pub(super) fn opened<'b>(bytes: &'b [u8], lists: &Lists<'_>) -> Cache<'b>
+pub(super) fn opened<'b>(bytes: &'b [u8], lists: &Lists<'_>) -> IndexedCache<'b>
     // The bytes are a cache: lists were read back of them.
     requires back { IsReadBack bytes.now (plain_lists lists.now) }
     // It has these bytes.
     ensures { result ≡ bytes.entry.now }
 {
     let mut meter = Meter::new();
-    match Cache::open(Counted::new(bytes), &mut meter) {
-        Ok(cache) => cache,
+    match IndexedCache::open(Counted::new(bytes), &mut meter) {
+        Ok(indexed) => indexed,
         Err(_) => unreachable!(),
     }
 }

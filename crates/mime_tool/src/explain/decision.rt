@@ -204,8 +204,8 @@ fn is_kind_below<'a>(
     requires short { length base.now ≤ 255 }
     ensures { IfOk result (λ is. IsTrue is ↔ IsA (pairs_of (database_of explaining.entry)) kind.entry.now base.now) }
 {
-    let cache = opened(explaining.bytes, explaining.lists);
-    match is_below(alloc, &cache, kind, base) {
+    let indexed = opened(explaining.bytes, explaining.lists);
+    match is_below(alloc, &indexed, kind, base) {
         Ok(is) => Ok(is),
         // Over a cache that was read back only memory is refused.
         Err(_) => Err(OutOfMemory),

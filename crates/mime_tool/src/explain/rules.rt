@@ -6,7 +6,7 @@ ghost use Rattle.mime_base.specs.Database.Lent.{plain_rule};
 ghost use Rattle.mime_base.specs.Falling.{falling};
 ghost use Rattle.mime_base.specs.Kept.{FitsRank, hits, of_greatest, rank_of_rule};
 ghost use Rattle.mime_load.specs.Lent.{plain_leaves, plain_lists, plain_rules};
-ghost use Rattle.mime_tool.specs.ExplainSteps.{AreMatches, AreOffers, IsReady, database_of};
+ghost use Rattle.mime_tool.specs.ExplainSteps.{AreMatches, AreRanked, IsReady, database_of};
 
 use super::Explaining;
 use mime_base::{Best, LentRule, Meter, OutOfMemory, class_of_bytes, glob_matches, rank_of};
@@ -99,7 +99,7 @@ fn offers_of<'a>(
 ) -> Result<Vec<(u32, LentRule<'a>)>, AllocError>
     requires limits { All FitsRank (map plain_rule rules.now) }
     // They are all rules that match the name, and each rank is the rule's.
-    ensures { IfOk result (λ offers. AreOffers (hits (map plain_rule rules.now) name.now) offers.items) }
+    ensures { IfOk result (λ offers. AreRanked (hits (map plain_rule rules.now) name.now) offers.items) }
 {
     let mut offers = Vec::new(alloc);
     let mut meter = Meter::new();

@@ -2,7 +2,7 @@
 
 ghost use Rattle.std.specs.Prelude.{Bool};
 ghost use Rattle.mime_tool.specs.Files.{Stored};
-ghost use Rattle.mime_tool.specs.LineSteps.{IsContent, LooksUp};
+ghost use Rattle.mime_tool.specs.LineSteps.{IsContent, LooksUpFile};
 ghost use Rattle.mime_tool.specs.Types.{lookup_by};
 
 use super::Outcome;
@@ -26,7 +26,7 @@ pub(super) fn find_again<'a, R: Content + Drop>(
 ) -> Result<Outcome<'a>, Stop>
     // It is what a lookup of the stored file by a walk of the cache comes to.
     ensures { (stored : Stored) (name_only : Bool) (output : Output) → IsContent R.remaining R.health name_only stored content.old
-        → LooksUp (lookup_by path.now name_only cost output order cache.now) stored file.now result }
+        → LooksUpFile (lookup_by path.now name_only cost output order cache.now) stored file.now result }
 {
     let name = name_for(order, file);
     match look_up_again(alloc, cache, name, content, Host::Little, order) {

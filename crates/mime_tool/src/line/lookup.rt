@@ -4,7 +4,7 @@ ghost use Rattle.std.specs.Prelude.{◌≡◌, Bool};
 ghost use Rattle.mime_base.specs.Database.{plain_database};
 ghost use Rattle.mime_tool.specs.Files.{Stored};
 ghost use Rattle.mime_tool.specs.Line.{asked_order, name_for};
-ghost use Rattle.mime_tool.specs.LineSteps.{IsContent, LooksUp, plain_lookup, tail_of};
+ghost use Rattle.mime_tool.specs.LineSteps.{IsContent, LooksUpFile, plain_lookup, tail_of_cost};
 ghost use Rattle.mime_tool.specs.Plain.{lookup_over};
 ghost use Rattle.mime_tool.specs.Types.{cost_tail, lookup_by};
 
@@ -86,7 +86,7 @@ pub(crate) fn find<'i, R: Content + Drop>(
 ) -> Result<Outcome<'i>, Stop>
     // It is what the lookup of the stored file comes to.
     ensures { (stored : Stored) → IsContent R.remaining R.health lookup.entry.name_only stored content.old
-        → LooksUp (plain_lookup lookup.entry) stored file.now result }
+        → LooksUpFile (plain_lookup lookup.entry) stored file.now result }
 {
     let Lookup {
         by,
@@ -115,7 +115,7 @@ fn find_in_database<'a, R: Content + Drop>(
     content: &mut Option<R>,
 ) -> Result<Outcome<'a>, Stop>
     ensures { (stored : Stored) (name_only : Bool) (output : Output) → IsContent R.remaining R.health name_only stored content.old
-        → LooksUp (lookup_over name_only output order (plain_database database.entry.now)) stored file.now result }
+        → LooksUpFile (lookup_over name_only output order (plain_database database.entry.now)) stored file.now result }
 {
     let name = name_for(order, file);
     match look_up_plain(alloc, database, name, content, Host::Little, order) {
@@ -137,7 +137,7 @@ fn find_in_index<'a, R: Content + Drop>(
     content: &mut Option<R>,
 ) -> Result<Outcome<'a>, Stop>
     ensures { (stored : Stored) (name_only : Bool) (output : Output) → IsContent R.remaining R.health name_only stored content.old
-        → LooksUp (lookup_over name_only output order (plain_database index.now)) stored file.now result }
+        → LooksUpFile (lookup_over name_only output order (plain_database index.now)) stored file.now result }
 {
     let name = name_for(order, file);
     match look_up_indexed(alloc, index, name, content, Host::Little, order) {
@@ -161,7 +161,7 @@ fn find_in_cache<'a, R: Content + Drop>(
     content: &mut Option<R>,
 ) -> Result<Outcome<'a>, Stop>
     ensures { (stored : Stored) (name_only : Bool) (output : Output) → IsContent R.remaining R.health name_only stored content.old
-        → LooksUp (lookup_by path.now name_only cost output order bytes.entry.now) stored file.now result }
+        → LooksUpFile (lookup_by path.now name_only cost output order bytes.entry.now) stored file.now result }
 {
     let name = name_for(order, file);
     let cache = Counted::new(bytes);
@@ -179,7 +179,7 @@ fn find_in_cache<'a, R: Content + Drop>(
 /// What an answer cost for which nothing was looked at.
 pub(super) fn free(lookup: Lookup<'_, '_>) -> Cost
     // Its text is that of no node, no byte compared and no byte read, if costs are told.
-    ensures { tail_of result ≡ (plain_lookup lookup.entry).free }
+    ensures { tail_of_cost result ≡ (plain_lookup lookup.entry).free }
 {
     match lookup.by {
         Data::Database(_) | Data::Indexed(_) => cost_of(false, Meter { nodes: 0, bytes: 0 }, 0),
@@ -191,7 +191,7 @@ pub(super) fn free(lookup: Lookup<'_, '_>) -> Cost
 // What an answer cost, and whether that is told.
 pub(super) fn cost_of(is_told: bool, meter: Meter, read: u64) -> Cost
     // Its text has these numbers, if costs are told.
-    ensures { tail_of result ≡ cost_tail is_told meter read }
+    ensures { tail_of_cost result ≡ cost_tail is_told meter read }
 {
     Cost {
         is_told,

@@ -4,12 +4,12 @@ use crate::tests::ran::alike;
 use mime_base::{Host, Meter};
 use mime_lookup::{Cause, Order, Stopped};
 use mime_text::{MagicFault, MagicFaultKind};
-use mime_tool::{AnswerFault, DirBytes, OwnedAnswer, answer};
+use mime_tool::{AnswerFault, DirTexts, OwnedAnswer, answer};
 use std::alloc::Global;
 use std::process::Abort;
 use std::test::Fail;
 
-const NOTHING: DirBytes<'static> = DirBytes {
+const NOTHING: DirTexts<'static> = DirTexts {
     globs2: b"",
     magic: b"",
     aliases: b"",
@@ -19,7 +19,7 @@ const NOTHING: DirBytes<'static> = DirBytes {
 };
 
 /// A long suffix beside a short one.
-static TARS: [DirBytes<'static>; 1] = [DirBytes {
+static TARS: [DirTexts<'static>; 1] = [DirTexts {
     globs2: b"50:application/gzip:*.gz\n50:application/x-compressed-tar:*.tar.gz\n",
     magic: b"",
     aliases: b"",
@@ -29,8 +29,8 @@ static TARS: [DirBytes<'static>; 1] = [DirBytes {
 }];
 
 /// A marker, and a rule of its type in a less preferred directory.
-static MARKED: [DirBytes<'static>; 2] = [
-    DirBytes {
+static MARKED: [DirTexts<'static>; 2] = [
+    DirTexts {
         globs2: b"0:t/a:__NOGLOBS__\n50:t/a:*.new\n",
         magic: b"",
         aliases: b"",
@@ -38,7 +38,7 @@ static MARKED: [DirBytes<'static>; 2] = [
         icons: b"",
         generic_icons: b"",
     },
-    DirBytes {
+    DirTexts {
         globs2: b"50:t/a:*.old\n",
         magic: b"",
         aliases: b"",
@@ -49,7 +49,7 @@ static MARKED: [DirBytes<'static>; 2] = [
 ];
 
 /// Two types of one name, of which the second leads to what is sniffed.
-static OGG: [DirBytes<'static>; 1] = [DirBytes {
+static OGG: [DirTexts<'static>; 1] = [DirTexts {
     globs2: b"50:audio/ogg:*.ogg\n50:video/ogg:*.ogg\n",
     magic: b"MIME-Magic\0\n[50:application/ogg]\n>0=\0\x04OggS\n",
     aliases: b"",
@@ -60,7 +60,7 @@ static OGG: [DirBytes<'static>; 1] = [DirBytes {
 
 fn type_of(
     alloc: Global,
-    dirs: &[DirBytes<'_>],
+    dirs: &[DirTexts<'_>],
     file: &[u8],
     content: Option<&[u8]>,
 ) -> Result<OwnedAnswer, AnswerFault> {
@@ -73,7 +73,7 @@ fn type_of(
 fn is_answered(
     rt: &impl Abort,
     alloc: Global,
-    dirs: &[DirBytes<'_>],
+    dirs: &[DirTexts<'_>],
     file: &[u8],
     content: Option<&[u8]>,
     kind: &[u8],
@@ -142,9 +142,9 @@ fn types_that_conflict(rt: HostRuntime) -> Result<(), Fail> {
 }
 
 /// The second directory's magic is refused.
-static REFUSED: [DirBytes<'static>; 2] = [
+static REFUSED: [DirTexts<'static>; 2] = [
     NOTHING,
-    DirBytes {
+    DirTexts {
         globs2: b"",
         magic: b"MIME",
         aliases: b"",

@@ -4,7 +4,7 @@ use crate::tests::ran::{Said, alike, says, says_over};
 use crate::{Drawer, Entry, Shelf};
 use mime_base::Host;
 use mime_lookup::Order;
-use mime_tool::{DirBytes, answer};
+use mime_tool::{DirTexts, answer};
 use std::alloc::Global;
 use std::process::Abort;
 use std::test::Fail;
@@ -173,7 +173,7 @@ fn builds_of_visible_rules(rt: HostRuntime) -> Result<(), Fail> {
     Ok(())
 }
 
-static DIRS: [DirBytes<'static>; 1] = [DirBytes {
+static DIRS: [DirTexts<'static>; 1] = [DirTexts {
     globs2: C_FILES,
     magic: MAGIC,
     aliases: b"",

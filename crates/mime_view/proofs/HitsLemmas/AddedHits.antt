@@ -5,7 +5,7 @@ use Rattle.std.specs.Prelude.{◌⊎◌, map}
 use Rattle.std.proofs.lemmas.List.{length-append, length-map, map-append}
 use Rattle.std.proofs.lemmas.List.Elements.{Contains-push_cases}
 use Rattle.mime_base.proofs.KeptLemmas.Offers.{items-ranked}
-use Rattle.mime_view.specs.Gathered.{AddsAt, TakesOne, places_of}
+use Rattle.mime_view.specs.Gathered.{AddsAt, TakesHit, places_of}
 
 -- hits of one rank
 abbrev pub ranked : ℕ → List ℕ → List (ℕ × ℕ)
@@ -21,11 +21,11 @@ pushed places kind place held = ⊎_elim inl (λ is. inr (sym is)) (Contains-pus
 
 module _ (kind : ℕ) where
   -- a hit that is not held
-  pub takes_none : (offers : List (ℕ × ℕ)) → TakesOne kind offers offers
+  pub takes_none : (offers : List (ℕ × ℕ)) → TakesHit kind offers offers
   takes_none offers = record { few = omega arith; added = λ place held. inl held }
 
   -- one that is held after the others
-  pub takes_after : (rank : ℕ) (offers : List (ℕ × ℕ)) → TakesOne kind offers (offers ++ (rank, kind) ∷ [])
+  pub takes_after : (rank : ℕ) (offers : List (ℕ × ℕ)) → TakesHit kind offers (offers ++ (rank, kind) ∷ [])
   takes_after rank offers = record {
     few = omega (arith, length-append offers ((rank, kind) ∷ []));
     added = λ place held.
@@ -35,7 +35,7 @@ module _ (kind : ℕ) where
   }
 
   -- one that is held after those of its rank
-  pub takes_ranked : (was rank : ℕ) (kinds : List ℕ) → TakesOne kind (ranked was kinds) (ranked rank (kinds ++ kind ∷ []))
+  pub takes_ranked : (was rank : ℕ) (kinds : List ℕ) → TakesHit kind (ranked was kinds) (ranked rank (kinds ++ kind ∷ []))
   takes_ranked was rank kinds = record {
     few =
         omega (
@@ -52,14 +52,14 @@ module _ (kind : ℕ) where
   }
 
   -- one that is held alone
-  pub takes_alone : (rank : ℕ) (offers : List (ℕ × ℕ)) → TakesOne kind offers (ranked rank (kind ∷ []))
+  pub takes_alone : (rank : ℕ) (offers : List (ℕ × ℕ)) → TakesHit kind offers (ranked rank (kind ∷ []))
   takes_alone rank offers = record {
     few = omega arith;
     added = λ place held. ⊎_elim (λ none. absurd (none_among place none)) inr (pushed [] kind place held);
   }
 
   -- where there is no memory for it, all may be dropped
-  pub takes_nothing : (offers : List (ℕ × ℕ)) → TakesOne kind offers []
+  pub takes_nothing : (offers : List (ℕ × ℕ)) → TakesHit kind offers []
   takes_nothing offers = record { few = omega arith; added = λ place held. absurd (none_among place held) }
 
 -- the places of one step and of another

@@ -5,7 +5,7 @@ use Rattle.std.proofs.lemmas.Bool.{cases_lt}
 use Rattle.std.specs.Prelude.{nat_lt}
 use Rattle.mime_base.specs.Cache.Bytes.{Stands, field, fields}
 use Rattle.mime_base.specs.Format.Header.{HeaderAt, Offsets}
-use Rattle.mime_base.specs.Format.Magic.{IsSection, LinesAt, MagicAt, line_numbers, width}
+use Rattle.mime_base.specs.Format.Magic.{IsSectionRecord, LinesAt, MagicAt, line_numbers, width}
 use Rattle.mime_base.specs.Format.Records.{CardsAt, RecordsAt}
 use Rattle.mime_base.specs.Magic.{Forest, PlainLine, PlainSection, are_allowed, are_allowed_sections}
 use Rattle.mime_base.specs.Magic.{bare, fits_mask, fits_word, is_allowed, line}
@@ -65,7 +65,7 @@ lines_read c at (suc levels) (line own children rest) allowed (value, mask, firs
 
 -- a section that stands is read with its lines
 section_read : (c : List ℕ) (at levels : ℕ) (section : PlainSection) (numbers : List ℕ) → are_allowed levels section.lines ≡ true
-    → CardsAt (Stands c) at numbers → IsSection (Stands c) section numbers → ReadsSection c at section
+    → CardsAt (Stands c) at numbers → IsSectionRecord (Stands c) section numbers → ReadsSection c at section
 section_read c at levels section numbers allowed here (kind, first, are, text, lines) =
     let read = numbers_read c at (section.priority ∷ kind ∷ width section.lines ∷ first ∷ []) (rw are at here) in
     let number : (i : ℕ) → get_or (fields c at 4) i 0 ≡ get_or (section.priority ∷ kind ∷ width section.lines ∷ first ∷ []) i 0 =
@@ -82,7 +82,7 @@ section_read c at levels section numbers allowed here (kind, first, are, text, l
 
 -- and so are sections that stand side by side
 sections_read : (c : List ℕ) (at : ℕ) (sections : List PlainSection) → are_allowed_sections sections ≡ true
-    → RecordsAt (Stands c) 16 (IsSection (Stands c)) at sections → ReadsSections c at sections
+    → RecordsAt (Stands c) 16 (IsSectionRecord (Stands c)) at sections → ReadsSections c at sections
 sections_read c at [] allowed stand = stand
 sections_read c at (section ∷ sections) allowed (numbers, here, is, rest) = (
   section_read c at 64 section numbers (both_left (are_allowed 64 section.lines) (are_allowed_sections sections) allowed) here is,
@@ -90,16 +90,16 @@ sections_read c at (section ∷ sections) allowed (numbers, here, is, rest) = (
 )
 
 -- the numbers of a section take 16 bytes
-section_size : (c : List ℕ) (section : PlainSection) (numbers : List ℕ) → IsSection (Stands c) section numbers → 4 * length numbers ≡ 16
+section_size : (c : List ℕ) (section : PlainSection) (numbers : List ℕ) → IsSectionRecord (Stands c) section numbers → 4 * length numbers ≡ 16
 section_size c section numbers (kind, first, are, text, lines) = ap (λ (ns : List ℕ). 4 * length ns) are
 
 -- sections lie in the cache
-sections_inside : (c : List ℕ) (at : ℕ) (sections : List PlainSection) → RecordsAt (Stands c) 16 (IsSection (Stands c)) at sections
+sections_inside : (c : List ℕ) (at : ℕ) (sections : List PlainSection) → RecordsAt (Stands c) 16 (IsSectionRecord (Stands c)) at sections
     → 0 < length sections → at + 16 * length sections ≤ length c
 sections_inside c at [] stand some = absurd (omega arith)
 sections_inside c at (section ∷ sections) (numbers, here, is, rest) some =
     let inside = record_inside c at numbers here in
-    records_inside c 16 (IsSection (Stands c)) at (section ∷ sections) (section_size c) (omega arith) (numbers, here, is, rest)
+    records_inside c 16 (IsSectionRecord (Stands c)) at (section ∷ sections) (section_size c) (omega arith) (numbers, here, is, rest)
 
 -- a list that stands is read as its sections
 magic_reads : (c : List ℕ) (at : ℕ) (sections : List PlainSection) → are_allowed_sections sections ≡ true → MagicAt (Stands c) at sections

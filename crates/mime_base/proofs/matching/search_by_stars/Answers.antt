@@ -44,14 +44,14 @@ loop-size-init c =
     let text = drop-map (compared_byte c.args.cased) start c.args.name.now ∙ ap (compared c.args.cased) (sym left) in
     let paid = simp zero-add at (star-paid (length c.args.pattern.now) (length c.args.name.now) 0 0 c.try_front-front.result.tests start
     (length c.try_front-front.result.after.now) (omega arith) (c.try_front-front.ensures.star star)
-    (omega (arith, c.try_front-front.ensures.passed))) in
+    (omega (arith, c.try_front-front.ensures.part.passed))) in
     let owed = goes-owed Star start (elements (compared c.args.cased c.args.pattern.now)) (compared c.args.cased c.args.name.now)
     (elements (compared c.args.cased c.try_front-front.result.after.now)) goes in
     let made = rule_tests-compared c.args.pattern.now c.args.cased c.args.name.now
     ∙ goes-tests Star start _ _ (elements (compared c.args.cased c.try_front-front.result.after.now)) goes in
     let rest = ap (tests_of (any_bytes ∷ elements (compared c.args.cased c.try_front-front.result.after.now))) text in
     record {
-      endless = c.try_front-front.ensures.endless;
+      endless = c.try_front-front.ensures.part.no_end;
       same = rule_matches-compared c.args.pattern.now c.args.cased c.args.name.now
           ∙ goes-decided Star start _ _ (elements (compared c.args.cased c.try_front-front.result.after.now)) goes
           ∙ ap (matches (any_bytes ∷ elements (compared c.args.cased c.try_front-front.result.after.now))) text;

@@ -35,26 +35,22 @@ loop-endless-preserved c =
       spent = omega (arith, paid);
     }
 
-pub returns-then-start-name-clause-decided : goal.returns-then-start-name-clause-decided
-returns-then-start-name-clause-decided c =
+pub returns-then-start-name-clause-slides : goal.returns-then-start-name-clause-slides
+returns-then-start-name-clause-slides c =
     let name = c.args.name.now in
     let front = between_to_end name c.loop-endless.start (length name) (omega arith) in
     let same = passed-same c.args.cased _ name c.loop-endless.start _ (rw front at c.count_refused-refused.ensures.same) in
-    let es = elements (compared c.args.cased c.args.pattern.now) in
-    let at = c.loop-endless.start + c.count_refused-refused.result in
-    let goes = end-goes c.args.cased es name at (c.count_refused-refused.ensures.taker c.if-refused-gt0.true).0 c.if-start-name.true in
-    c.loop-endless.invariant.same ∙ same ∙ decided-from c.args.cased es name at 0 es NameEnds goes (λ ends. absurd cc) (λ ends. absurd cc)
-
-pub returns-then-start-name-clause-tests : goal.returns-then-start-name-clause-tests
-returns-then-start-name-clause-tests c =
-    let name = c.args.name.now in
-    let front = between_to_end name c.loop-endless.start (length name) (omega arith) in
     let passed = passed-tests c.args.cased _ name c.loop-endless.start _ ((rw front at c.count_refused-refused.ensures.tests) c.requires.star) in
     let es = elements (compared c.args.cased c.args.pattern.now) in
     let at = c.loop-endless.start + c.count_refused-refused.result in
     let goes = end-goes c.args.cased es name at (c.count_refused-refused.ensures.taker c.if-refused-gt0.true).0 c.if-start-name.true in
     let made = tests-from c.args.cased es name at 0 es c.requires.star NameEnds goes (λ ends. absurd cc) in
-    omega (arith, c.loop-endless.invariant.made, passed, made)
+    record {
+      decides = c.loop-endless.invariant.same ∙ same
+          ∙ decided-from c.args.cased es name at 0 es NameEnds goes (λ ends. absurd cc) (λ ends. absurd cc);
+      tests = omega (arith, c.loop-endless.invariant.made, passed, made);
+      least = omega arith;
+    }
 
 pub loop-endless-preserved-then-refused_second : goal.loop-endless-preserved-then-refused_second
 loop-endless-preserved-then-refused_second c =
@@ -98,16 +94,20 @@ returns-in_default c =
     let paid = last-paid (length c.args.pattern.now) (length name) at (c.loop-endless.tests + c.count_refused-refused.result)
     c.attempt-tried.result.tests before c.attempt-tried.ensures.most within in
     record {
-      decided = c.loop-endless.invariant.same ∙ same
-          ∙ decided-from c.args.cased _ name at _ _ _ goes
-          (λ ends. ahead-goes_on _ _ _ _ (rw ends at goes) c.requires.star) c.in_default.not-Refused;
-      tests = omega (arith, c.loop-endless.invariant.made, passed, made, c.attempt-tried.ensures.tests);
-      passed = omega (arith, c.attempt-tried.ensures.passed);
-      shorter = λ star. omega (arith, c.attempt-tried.ensures.star star);
-      endless = c.attempt-tried.ensures.endless;
-      least = omega arith;
+      slides = record {
+        decides = c.loop-endless.invariant.same ∙ same
+            ∙ decided-from c.args.cased _ name at _ _ _ goes
+            (λ ends. ahead-goes_on _ _ _ _ (rw ends at goes) c.requires.star) c.in_default.not-Refused;
+        tests = omega (arith, c.loop-endless.invariant.made, passed, made, c.attempt-tried.ensures.tests);
+        least = omega arith;
+      };
+      part = record {
+        passed = omega (arith, c.attempt-tried.ensures.part.passed);
+        shorter = c.attempt-tried.ensures.part.shorter;
+        no_end = c.attempt-tried.ensures.part.no_end;
+      };
       most = omega (arith, paid);
       star = λ star. (let on = star-paid (length c.args.pattern.now) (length name) at (c.loop-endless.tests + c.count_refused-refused.result)
           c.attempt-tried.result.tests c.attempt-tried.result.passed (length c.attempt-tried.result.after.now)
-          before (c.attempt-tried.ensures.star star) (omega (arith, c.attempt-tried.ensures.passed)) in omega (arith, on));
+          before (c.attempt-tried.ensures.star star) (omega (arith, c.attempt-tried.ensures.part.passed)) in omega (arith, on));
     }

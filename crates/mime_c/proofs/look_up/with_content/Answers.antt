@@ -1,14 +1,21 @@
-use Rattle.std.proofs.Common.{ℕ, List, Some, subst}
+use Rattle.std.proofs.Common.{ℕ, List, Some, refl, subst}
 use Rattle.mime_c.specs.LookUp.{IsLookUp}
-use Rattle.mime_c.proofs.Slices.{never_read, promised}
+use Rattle.mime_c.proofs.Slices.{never_read}
 use Rattle.mime_c.proofs.look_up.with_content.Goals as goal
 
 pub returns-clause-promises : goal.returns-clause-promises
 returns-clause-promises c =
     let is = c.look_up.ensures in
     subst (λ (cache : List ℕ). IsLookUp cache c.args.name.now c.args.content.now c.args.order c.look_up.result) c.new.ensures
-    (promised c.new.result c.args.name.now c.args.content c.look_up.new.content c.args.order c.look_up.result is.answers is.stops
-    is.reads is.costs)
+    (record {
+      before = c.args.content;
+      whole = refl;
+      after = c.look_up.new.content;
+      answers = is.answers;
+      stops = is.stops;
+      reads = is.reads;
+      costs = is.costs;
+    })
 
 pub returns-clause-readable : goal.returns-clause-readable
 returns-clause-readable c =

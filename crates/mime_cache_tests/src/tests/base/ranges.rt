@@ -2,7 +2,7 @@
 
 use crate::tests::checked::alike;
 use crate::tests::sample::SAMPLE;
-use mime_base::{ByteFault, Content, Counted, Host, Meter, StatedValue};
+use mime_base::{ByteFault, Counted, Host, Meter, NotedContent, StatedValue};
 
 /// A range of a content against the value 1F 8B of [`SAMPLE`], and whether the first bytes alone rule it out.
 struct Range {
@@ -166,7 +166,7 @@ fn values_in_ranges(rt: HostRuntime) {
 fn ranges_that_differ_at_once(rt: HostRuntime) {
     let sample = Counted::new(&SAMPLE);
     for row in &RANGES {
-        let (content, mut meter) = (Content::new(row.content), Meter::new());
+        let (content, mut meter) = (NotedContent::new(row.content), Meter::new());
         let differs = sample.differs_at_once(GZIP, row.start, row.range, &content, &mut meter);
         alike(&rt, row.name, differs, row.at_once);
         let bytes = if row.at_once { row.bytes } else { 0 };

@@ -2,6 +2,7 @@
 //! and compares.
 
 mod again;
+mod aliases;
 mod counts;
 mod cut;
 mod hostile;

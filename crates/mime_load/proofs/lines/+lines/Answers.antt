@@ -7,9 +7,9 @@ use Rattle.mime_base.specs.Format.Magic.{width}
 use Rattle.mime_base.specs.Magic.{PlainLine, bare, line}
 use Rattle.mime_load.specs.Lent.{plain_line, plain_lines}
 use Rattle.mime_load.specs.MagicStanding.{ForestStands}
-use Rattle.mime_load.specs.Taking.{HasRoom}
+use Rattle.mime_load.specs.Taking.{HasRoomForLines}
 use Rattle.mime_load.proofs.SameLemmas.{next_line, no_levels, opened, same_line}
-use Rattle.mime_load.proofs.TakingLemmas.{lines_taken, pays_then}
+use Rattle.mime_load.proofs.TakingLemmas.{lines_taken, wide_then}
 use Rattle.mime_load.proofs.lines.+lines.Goals as goal
 
 pub line_at-returns-clause-stands : goal.line_at-returns-clause-stands
@@ -28,8 +28,7 @@ lines_at-loop-i-preserved t c =
       count = ap length pushed ∙ length_push c.loop-i.lines.items c.in_ok-line.line ∙ ap (λ (n : ℕ). n + 1) c.loop-i.invariant.count;
       taken = rw pushed (lines_taken c.args.taking.now c.loop-i.taking c.line_at.new.taking c.loop-i.lines.items c.in_ok-line.line
           c.loop-i.invariant.taken c.in_ok-line.ensures.taken);
-      pays = pays_then c.args.taking.now c.loop-i.taking c.line_at.new.taking c.loop-i.invariant.pays c.line_at.ensures.pays;
-      wide = omega (arith, c.loop-i.invariant.wide, c.line_at.ensures.wide);
+      wide = wide_then c.args.taking.now c.loop-i.taking c.line_at.new.taking c.loop-i.invariant.wide c.line_at.ensures.wide;
     }
 
 pub line_at-returns-in_err-own-clause-need : goal.line_at-returns-in_err-own-clause-need
@@ -70,7 +69,7 @@ lines_at-returns-in_err-line-clause-need t c = λ lines wide stands room.
     (plain_lines c.loop-i.lines.items) lines
     (length-map c.loop-i.lines.items plain_line ∙ before.count) (omega (arith, wide, c.loop-i-test.true))
     (omega (arith, c.from.ensures, c.from-in-loop-i.ensures)) before.stand stands in
-    let left : HasRoom c.loop-i.taking (line next.own next.children bare) = record {
+    let left : HasRoomForLines c.loop-i.taking (line next.own next.children bare) = record {
       records = omega (arith, room.records, before.taken.records, next.records);
       value_bytes = omega (arith, room.value_bytes, before.taken.value_bytes, next.value_bytes);
     } in

@@ -2,7 +2,7 @@ use Rattle.std.proofs.Common.{◌≡◌, ◌+◌, ◌*◌, length}
 use Rattle.mime_base.specs.Magic.{forest_of}
 use Rattle.mime_load.specs.Lent.{plain_lines}
 use Rattle.mime_load.specs.MagicStanding.{LinesStand}
-use Rattle.mime_load.specs.Taking.{Pays, PaysWide, TakesLines}
+use Rattle.mime_load.specs.Taking.{PaysWide, TakesLines}
 use Rattle.mime_load.proofs.lines.+lines.Given as goal
 
 abbrev pub decreases-line_at : goal.decreases-line_at
@@ -16,6 +16,5 @@ invariant-lines_at-loop-i l = record {
   stand : LinesStand l.source.counted.now l.first l.levels l.lines.items;
   count : length l.lines.items ≡ l.i;
   taken : TakesLines l.initial.taking l.taking (forest_of (plain_lines l.lines.items));
-  pays : Pays 0 0 l.initial.taking l.taking;
   wide : PaysWide 0 l.initial.taking l.taking;
 }

@@ -30,6 +30,6 @@ returns-in_err-sections-clause-need c = λ sections has within room.
     let stand = magic_read c.args.source.now.counted.now c.in_ok-header.header sections c.in_ok-header.ensures.header has in
     let p = err_from_is_err_and c.from_residual-in_err-sections.result c.from_residual-in_err-sections.ensures.1 in
     rw (p.1, p.2) (c.in_err-sections.ensures.need sections stand (record {
-      records = omega (arith, room.records, c.read_header.ensures.records);
-      value_bytes = omega (arith, room.value_bytes, c.read_header.ensures.value_bytes);
+      records = omega (arith, room.records, c.read_header.ensures.looks.records);
+      value_bytes = omega (arith, room.value_bytes, c.read_header.ensures.looks.takes.value_bytes);
     }))

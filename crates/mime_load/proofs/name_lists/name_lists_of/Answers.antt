@@ -51,7 +51,7 @@ returns-in_err-literals-clause-need c = λ aliases rules has within room.
     let read = names_read c.args.source.now.counted.now c.in_ok-header.header aliases rules c.in_ok-header.ensures.header has in
     let p = err_from_is_err_and c.from_residual-in_err-literals.result c.from_residual-in_err-literals.ensures.1 in
     rw (p.1, p.2) (c.in_err-literals.ensures.need (literal_rules rules) read.literals
-    (omega (arith, room, c.read_header.ensures.records, c.aliases_at.ensures.taken)))
+    (omega (arith, room, c.read_header.ensures.looks.records, c.aliases_at.ensures.looks.records)))
 
 pub returns-in_err-leaves-clause-need : goal.returns-in_err-leaves-clause-need
 returns-in_err-leaves-clause-need c = λ aliases rules has within room.
@@ -61,7 +61,7 @@ returns-in_err-leaves-clause-need c = λ aliases rules has within room.
     c.in_ok-literals.literals.items (literal_rules rules) c.in_ok-literals.ensures.stand read.literals c.in_ok-literals.ensures.taken in
     let p = err_from_is_err_and c.from_residual-in_err-leaves.result c.from_residual-in_err-leaves.ensures.1 in
     rw (p.1, p.2) (c.in_err-leaves.ensures.need (tree_rules rules) read.leaves
-    (omega (arith, room, read.size, literals, c.read_header.ensures.records, c.aliases_at.ensures.taken)))
+    (omega (arith, room, read.size, literals, c.read_header.ensures.looks.records, c.aliases_at.ensures.looks.records)))
 
 pub returns-in_err-globs-clause-need : goal.returns-in_err-globs-clause-need
 returns-in_err-globs-clause-need c = λ aliases rules has within room.
@@ -73,4 +73,4 @@ returns-in_err-globs-clause-need c = λ aliases rules has within room.
     c.in_ok-leaves.leaves.items (tree_rules rules) c.in_ok-leaves.ensures.stand read.leaves c.in_ok-leaves.ensures.taken in
     let p = err_from_is_err_and c.from_residual-in_err-globs.result c.from_residual-in_err-globs.ensures.1 in
     rw (p.1, p.2) (c.in_err-globs.ensures.need (glob_rules rules) read.globs
-    (omega (arith, room, read.size, literals, leaves, c.read_header.ensures.records, c.aliases_at.ensures.taken)))
+    (omega (arith, room, read.size, literals, leaves, c.read_header.ensures.looks.records, c.aliases_at.ensures.looks.records)))

@@ -23,7 +23,7 @@ returns-then-not-is_spellable-clause-need c = λ own count first stands records 
 pub returns-in_err-take_value_bytes-clause-need : goal.returns-in_err-take_value_bytes-clause-need
 returns-in_err-take_value_bytes-clause-need c = λ own count first stands records bytes.
     let read = line_read c.args.source.now.counted.now c.args.at c.in_ok-start.field-0 own count first c.in_ok-start.ensures.numbers stands in
-    absurd (omega (arith, c.in_err-take_value_bytes.ensures.fault, read.size, c.in_ok-start.ensures.value_bytes))
+    absurd (omega (arith, c.in_err-take_value_bytes.ensures.fault, read.size, c.in_ok-start.ensures.visits.value_bytes))
 
 pub returns-in_err-value-clause-need : goal.returns-in_err-value-clause-need
 returns-in_err-value-clause-need c = λ own count first stands records bytes.

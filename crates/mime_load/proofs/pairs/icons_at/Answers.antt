@@ -20,7 +20,7 @@ returns-in_err-take_records-clause-need c = λ pairs stand room.
       room,
       count,
       length-map c.in_ok-pairs.pairs.items plain_pair,
-      c.pairs_at.ensures.records,
+      c.pairs_at.ensures.looks.records,
       c.len.ensures,
       c.in_err-take_records.ensures.fault,
     ))

@@ -11,18 +11,13 @@ use Rattle.mime_load.proofs.NextRecords.{NextRecord, list_inside, next_record, p
 use Rattle.mime_load.proofs.PairLemmas.{pairs_by_text, pairs_pushed}
 use Rattle.mime_load.proofs.RecordLemmas.{list_whole, records_pushed}
 use Rattle.mime_load.proofs.SameLemmas.{same_numbers}
-use Rattle.mime_load.proofs.TakingLemmas.{pays_list, pays_list_more}
+use Rattle.mime_load.proofs.TakingLemmas.{looks_list, looks_pair}
 use Rattle.mime_load.proofs.pairs.pairs_at.Goals as goal
 
 pub loop-i-preserved : goal.loop-i-preserved
 loop-i-preserved c = record {
   size = search rules;
-  records = search rules;
-  value_bytes = search rules;
-  pays = record {
-    nodes_paid = omega (arith, c.loop-i.invariant.pays.nodes_paid, c.read_pair.ensures.pays.nodes_paid);
-    bytes_paid = omega (arith, c.loop-i.invariant.pays.bytes_paid, c.read_pair.ensures.pays.bytes_paid);
-  };
+  looks = looks_pair c.loop-i.i c.read_count.new.taking c.loop-i.taking c.read_pair.new.taking c.loop-i.invariant.looks c.read_pair.ensures.looks;
   sorted = pairs_pushed c.loop-i.pairs.items c.push.new.self.items c.in_ok-pair.pair c.in_ok-push.ensures.items c.loop-i.invariant.sorted
       (rw c.deref.ensures.value at (c.comes_next.ensures.rises (search rules)));
   stand = records_pushed (Stands c.args.source.now.counted.now) 8 (IsPair (Stands c.args.source.now.counted.now)) plain_pair (c.args.at + 4)
@@ -39,27 +34,30 @@ returns-clause-stand c = record {
       (omega (arith, c.loop-i.invariant.size, c.loop-i-test.false, c.loop-i.auto.i-end)) c.loop-i.invariant.stand;
 }
 
-pub returns-clause-pays : goal.returns-clause-pays
-returns-clause-pays c =
-    pays_list c.args.source.now.counted.now c.loop-i.i c.args.taking.now c.read_count.new.taking c.loop-i.taking c.read_count.ensures.pays
-    c.loop-i.invariant.pays (omega (arith, c.in_ok-count.ensures.inside, c.loop-i-test.false, c.loop-i.auto.i-end))
+pub returns-clause-looks : goal.returns-clause-looks
+returns-clause-looks c =
+    looks_list c.args.source.now.counted.now c.loop-i.i c.args.taking.now c.read_count.new.taking c.loop-i.taking c.read_count.ensures.looks
+    c.loop-i.invariant.looks (omega (arith, c.in_ok-count.ensures.inside, c.loop-i-test.false, c.loop-i.auto.i-end))
 
-pub returns-in_err-pair-clause-pays : goal.returns-in_err-pair-clause-pays
-returns-in_err-pair-clause-pays c =
-    pays_list_more c.args.source.now.counted.now c.loop-i.i c.args.taking.now c.read_count.new.taking c.loop-i.taking c.read_pair.new.taking
-    c.read_count.ensures.pays c.loop-i.invariant.pays c.read_pair.ensures.pays
+pub returns-in_err-pair-clause-looks : goal.returns-in_err-pair-clause-looks
+returns-in_err-pair-clause-looks c =
+    looks_list c.args.source.now.counted.now (c.loop-i.i + 1) c.args.taking.now c.read_count.new.taking c.read_pair.new.taking
+    c.read_count.ensures.looks
+    (looks_pair c.loop-i.i c.read_count.new.taking c.loop-i.taking c.read_pair.new.taking c.loop-i.invariant.looks c.read_pair.ensures.looks)
     (omega (arith, c.in_ok-count.ensures.inside, c.loop-i-test.true))
 
-pub returns-then-not-comes_next-clause-pays : goal.returns-then-not-comes_next-clause-pays
-returns-then-not-comes_next-clause-pays c =
-    pays_list_more c.args.source.now.counted.now c.loop-i.i c.args.taking.now c.read_count.new.taking c.loop-i.taking c.read_pair.new.taking
-    c.read_count.ensures.pays c.loop-i.invariant.pays c.read_pair.ensures.pays
+pub returns-then-not-comes_next-clause-looks : goal.returns-then-not-comes_next-clause-looks
+returns-then-not-comes_next-clause-looks c =
+    looks_list c.args.source.now.counted.now (c.loop-i.i + 1) c.args.taking.now c.read_count.new.taking c.read_pair.new.taking
+    c.read_count.ensures.looks
+    (looks_pair c.loop-i.i c.read_count.new.taking c.loop-i.taking c.read_pair.new.taking c.loop-i.invariant.looks c.read_pair.ensures.looks)
     (omega (arith, c.in_ok-count.ensures.inside, c.loop-i-test.true))
 
-pub returns-in_err-push-clause-pays : goal.returns-in_err-push-clause-pays
-returns-in_err-push-clause-pays c =
-    pays_list_more c.args.source.now.counted.now c.loop-i.i c.args.taking.now c.read_count.new.taking c.loop-i.taking c.read_pair.new.taking
-    c.read_count.ensures.pays c.loop-i.invariant.pays c.read_pair.ensures.pays
+pub returns-in_err-push-clause-looks : goal.returns-in_err-push-clause-looks
+returns-in_err-push-clause-looks c =
+    looks_list c.args.source.now.counted.now (c.loop-i.i + 1) c.args.taking.now c.read_count.new.taking c.read_pair.new.taking
+    c.read_count.ensures.looks
+    (looks_pair c.loop-i.i c.read_count.new.taking c.loop-i.taking c.read_pair.new.taking c.loop-i.invariant.looks c.read_pair.ensures.looks)
     (omega (arith, c.in_ok-count.ensures.inside, c.loop-i-test.true))
 
 pub returns-in_err-count-clause-need : goal.returns-in_err-count-clause-need

@@ -11,15 +11,14 @@ use Rattle.mime_load.proofs.NextRecords.{list_inside}
 use Rattle.mime_load.proofs.ParentTypes.{kind_parents, kind_there, next_parents, next_rises}
 use Rattle.mime_load.proofs.ParentsRead.{subclass_long}
 use Rattle.mime_load.proofs.SameLemmas.{same_numbers}
-use Rattle.mime_load.proofs.TakingLemmas.{pays_entries, pays_entries_more}
+use Rattle.mime_load.proofs.TakingLemmas.{takes_entries, takes_entry}
 use Rattle.mime_load.proofs.parents.parents_at.Goals as goal
 
 pub loop-i-init : goal.loop-i-init
 loop-i-init c = record {
   entries = rw c.new-pairs.ensures.items (entries_none c.args.source.now.counted.now _ []);
   records = search rules;
-  value_bytes = search rules;
-  pays = search rules;
+  takes = search rules;
 }
 
 pub loop-i-preserved : goal.loop-i-preserved
@@ -28,11 +27,8 @@ loop-i-preserved c = record {
       (plain_pairs c.loop-i.pairs.items) (plain_pairs c.read_entry.new.pairs.items) c.loop-i.invariant.entries
       (c.comes_next.ensures.rises (search rules)) (rw c.from.ensures at c.in_ok-kind.ensures.entry);
   records = search rules;
-  value_bytes = search rules;
-  pays = record {
-    nodes_paid = omega (arith, c.loop-i.invariant.pays.nodes_paid, c.read_entry.ensures.pays.nodes_paid);
-    bytes_paid = omega (arith, c.loop-i.invariant.pays.bytes_paid, c.read_entry.ensures.pays.bytes_paid);
-  };
+  takes = takes_entry c.loop-i.i c.read_count.new.taking c.loop-i.taking c.read_entry.new.taking c.loop-i.invariant.takes
+      c.read_entry.ensures.takes;
 }
 
 pub returns-clause-stand : goal.returns-clause-stand
@@ -40,22 +36,24 @@ returns-clause-stand c = parents_whole c.args.source.now.counted.now c.args.at c
     (rw c.from-start.ensures at c.in_ok-count.ensures.count) (omega (arith, c.loop-i-test.false, c.loop-i.auto.i-end))
     (rw c.from-start.ensures at c.loop-i.invariant.entries)
 
-pub returns-in_err-kind-clause-pays : goal.returns-in_err-kind-clause-pays
-returns-in_err-kind-clause-pays c =
-    pays_entries_more c.args.source.now.counted.now c.loop-i.i c.args.taking.now c.read_count.new.taking c.loop-i.taking
-    c.read_entry.new.taking c.read_count.ensures.pays c.loop-i.invariant.pays c.read_entry.ensures.pays
+pub returns-in_err-kind-clause-takes : goal.returns-in_err-kind-clause-takes
+returns-in_err-kind-clause-takes c =
+    takes_entries c.args.source.now.counted.now (c.loop-i.i + 1) c.args.taking.now c.read_count.new.taking c.read_entry.new.taking
+    c.read_count.ensures.looks.takes
+    (takes_entry c.loop-i.i c.read_count.new.taking c.loop-i.taking c.read_entry.new.taking c.loop-i.invariant.takes c.read_entry.ensures.takes)
     (omega (arith, c.in_ok-count.ensures.inside, c.loop-i-test.true))
 
-pub returns-then-not-comes_next-clause-pays : goal.returns-then-not-comes_next-clause-pays
-returns-then-not-comes_next-clause-pays c =
-    pays_entries_more c.args.source.now.counted.now c.loop-i.i c.args.taking.now c.read_count.new.taking c.loop-i.taking
-    c.read_entry.new.taking c.read_count.ensures.pays c.loop-i.invariant.pays c.read_entry.ensures.pays
+pub returns-then-not-comes_next-clause-takes : goal.returns-then-not-comes_next-clause-takes
+returns-then-not-comes_next-clause-takes c =
+    takes_entries c.args.source.now.counted.now (c.loop-i.i + 1) c.args.taking.now c.read_count.new.taking c.read_entry.new.taking
+    c.read_count.ensures.looks.takes
+    (takes_entry c.loop-i.i c.read_count.new.taking c.loop-i.taking c.read_entry.new.taking c.loop-i.invariant.takes c.read_entry.ensures.takes)
     (omega (arith, c.in_ok-count.ensures.inside, c.loop-i-test.true))
 
-pub returns-clause-pays : goal.returns-clause-pays
-returns-clause-pays c =
-    pays_entries c.args.source.now.counted.now c.loop-i.i c.args.taking.now c.read_count.new.taking c.loop-i.taking c.read_count.ensures.pays
-    c.loop-i.invariant.pays (omega (arith, c.in_ok-count.ensures.inside, c.loop-i-test.false, c.loop-i.auto.i-end))
+pub returns-clause-takes : goal.returns-clause-takes
+returns-clause-takes c =
+    takes_entries c.args.source.now.counted.now c.loop-i.i c.args.taking.now c.read_count.new.taking c.loop-i.taking c.read_count.ensures.looks.takes
+    c.loop-i.invariant.takes (omega (arith, c.in_ok-count.ensures.inside, c.loop-i-test.false, c.loop-i.auto.i-end))
 
 pub returns-in_err-count-clause-need : goal.returns-in_err-count-clause-need
 returns-in_err-count-clause-need c = λ pairs list room.
@@ -94,7 +92,7 @@ returns-in_err-kind-clause-need c = λ pairs list room.
       fits,
       length-map c.loop-i.pairs.items plain_pair,
       c.loop-i.invariant.records,
-      c.read_count.ensures.records,
+      c.read_count.ensures.looks.records,
     )))
 
 pub returns-then-not-comes_next-clause-need : goal.returns-then-not-comes_next-clause-need

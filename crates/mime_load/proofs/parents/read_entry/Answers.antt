@@ -36,4 +36,4 @@ returns-in_err-read_parents-clause-need c =
     stands in
     let need = rw c.from.ensures at c.in_err-read_parents.ensures.need in
     let p = err_from_is_err_and c.from_residual-in_err-read_parents.result c.from_residual-in_err-read_parents.ensures.1 in
-    rw (p.1, p.2) (need targets read.stand some (omega (arith, room, c.read_numbers.ensures.records, c.read_text.ensures.records)))
+    rw (p.1, p.2) (need targets read.stand some (omega (arith, room, c.read_numbers.ensures.looks.records, c.read_text.ensures.looks.records)))

@@ -1,4 +1,4 @@
-use Rattle.std.proofs.Common.{◌≡◌, List, arith, length, refl, slice_index, subst}
+use Rattle.std.proofs.Common.{arith, length, refl, slice_index, subst}
 use Rattle.std.proofs.lemmas.Result.{err_from_is_err_and}
 use Rattle.mime_base.specs.Cache.Bytes.{Stands}
 use Rattle.mime_base.specs.Format.Pairs.{PairsAt}
@@ -55,8 +55,8 @@ returns-clause-lists c =
           omega (
             arith,
             sized cache numbers b header aliases parents literals tree globs magic icons generic,
-            c.read_header.ensures.records,
-            c.aliases_at.ensures.taken,
+            c.read_header.ensures.looks.records,
+            c.aliases_at.ensures.looks.records,
             rw c.in_ok-parents.ensures.read at c.parents_at.ensures.taken,
             rw c.in_ok-literals.ensures.read at c.literals_at.ensures.taken,
             rw c.in_ok-leaves.ensures.read at c.leaves_at.ensures.taken,
@@ -68,15 +68,15 @@ returns-clause-lists c =
       values =
           omega (
             arith,
-            c.read_header.ensures.value_bytes,
-            c.aliases_at.ensures.value_bytes,
-            c.parents_at.ensures.value_bytes,
-            c.literals_at.ensures.value_bytes,
-            c.leaves_at.ensures.value_bytes,
-            c.globs_at.ensures.value_bytes,
+            c.read_header.ensures.looks.takes.value_bytes,
+            c.aliases_at.ensures.looks.takes.value_bytes,
+            c.parents_at.ensures.takes.value_bytes,
+            c.literals_at.ensures.takes.value_bytes,
+            c.leaves_at.ensures.takes.value_bytes,
+            c.globs_at.ensures.takes.value_bytes,
             took.value_bytes,
-            c.icons_at.ensures.value_bytes,
-            c.icons_at-2.ensures.value_bytes,
+            c.icons_at.ensures.takes.value_bytes,
+            c.icons_at-2.ensures.takes.value_bytes,
           );
     }
 
@@ -85,28 +85,28 @@ returns-clause-pays c = record {
   nodes_paid =
       omega (
         arith,
-        c.read_header.ensures.pays.nodes_paid,
-        c.aliases_at.ensures.pays.nodes_paid,
-        c.parents_at.ensures.pays.nodes_paid,
-        c.literals_at.ensures.pays.nodes_paid,
-        c.leaves_at.ensures.pays.nodes_paid,
-        c.globs_at.ensures.pays.nodes_paid,
-        c.sections_at.ensures.pays.nodes_paid,
-        c.icons_at.ensures.pays.nodes_paid,
-        c.icons_at-2.ensures.pays.nodes_paid,
+        c.read_header.ensures.looks.takes.pays.nodes_paid,
+        c.aliases_at.ensures.looks.takes.pays.nodes_paid,
+        c.parents_at.ensures.takes.pays.nodes_paid,
+        c.literals_at.ensures.takes.pays.nodes_paid,
+        c.leaves_at.ensures.takes.pays.nodes_paid,
+        c.globs_at.ensures.takes.pays.nodes_paid,
+        c.sections_at.ensures.wide.pays.nodes_paid,
+        c.icons_at.ensures.takes.pays.nodes_paid,
+        c.icons_at-2.ensures.takes.pays.nodes_paid,
       );
   bytes_paid =
       omega (
         arith,
-        c.read_header.ensures.pays.bytes_paid,
-        c.aliases_at.ensures.pays.bytes_paid,
-        c.parents_at.ensures.pays.bytes_paid,
-        c.literals_at.ensures.pays.bytes_paid,
-        c.leaves_at.ensures.pays.bytes_paid,
-        c.globs_at.ensures.pays.bytes_paid,
-        c.sections_at.ensures.pays.bytes_paid,
-        c.icons_at.ensures.pays.bytes_paid,
-        c.icons_at-2.ensures.pays.bytes_paid,
+        c.read_header.ensures.looks.takes.pays.bytes_paid,
+        c.aliases_at.ensures.looks.takes.pays.bytes_paid,
+        c.parents_at.ensures.takes.pays.bytes_paid,
+        c.literals_at.ensures.takes.pays.bytes_paid,
+        c.leaves_at.ensures.takes.pays.bytes_paid,
+        c.globs_at.ensures.takes.pays.bytes_paid,
+        c.sections_at.ensures.wide.pays.bytes_paid,
+        c.icons_at.ensures.takes.pays.bytes_paid,
+        c.icons_at-2.ensures.takes.pays.bytes_paid,
       );
 }
 
@@ -115,28 +115,28 @@ returns-in_err-generic_icons-clause-pays c = record {
   nodes_paid =
       omega (
         arith,
-        c.read_header.ensures.pays.nodes_paid,
-        c.aliases_at.ensures.pays.nodes_paid,
-        c.parents_at.ensures.pays.nodes_paid,
-        c.literals_at.ensures.pays.nodes_paid,
-        c.leaves_at.ensures.pays.nodes_paid,
-        c.globs_at.ensures.pays.nodes_paid,
-        c.sections_at.ensures.pays.nodes_paid,
-        c.icons_at.ensures.pays.nodes_paid,
-        c.icons_at-2.ensures.pays.nodes_paid,
+        c.read_header.ensures.looks.takes.pays.nodes_paid,
+        c.aliases_at.ensures.looks.takes.pays.nodes_paid,
+        c.parents_at.ensures.takes.pays.nodes_paid,
+        c.literals_at.ensures.takes.pays.nodes_paid,
+        c.leaves_at.ensures.takes.pays.nodes_paid,
+        c.globs_at.ensures.takes.pays.nodes_paid,
+        c.sections_at.ensures.wide.pays.nodes_paid,
+        c.icons_at.ensures.takes.pays.nodes_paid,
+        c.icons_at-2.ensures.takes.pays.nodes_paid,
       );
   bytes_paid =
       omega (
         arith,
-        c.read_header.ensures.pays.bytes_paid,
-        c.aliases_at.ensures.pays.bytes_paid,
-        c.parents_at.ensures.pays.bytes_paid,
-        c.literals_at.ensures.pays.bytes_paid,
-        c.leaves_at.ensures.pays.bytes_paid,
-        c.globs_at.ensures.pays.bytes_paid,
-        c.sections_at.ensures.pays.bytes_paid,
-        c.icons_at.ensures.pays.bytes_paid,
-        c.icons_at-2.ensures.pays.bytes_paid,
+        c.read_header.ensures.looks.takes.pays.bytes_paid,
+        c.aliases_at.ensures.looks.takes.pays.bytes_paid,
+        c.parents_at.ensures.takes.pays.bytes_paid,
+        c.literals_at.ensures.takes.pays.bytes_paid,
+        c.leaves_at.ensures.takes.pays.bytes_paid,
+        c.globs_at.ensures.takes.pays.bytes_paid,
+        c.sections_at.ensures.wide.pays.bytes_paid,
+        c.icons_at.ensures.takes.pays.bytes_paid,
+        c.icons_at-2.ensures.takes.pays.bytes_paid,
       );
 }
 
@@ -160,7 +160,7 @@ returns-in_err-aliases-clause-first c =
       numbers = numbers;
       header = rw c.in_ok-header.ensures.read at c.read_header.ensures.header;
       left = c.read_header.new.taking.records;
-      stand = omega (arith, c.requires.room.0, c.read_header.ensures.records);
+      stand = omega (arith, c.requires.room.0, c.read_header.ensures.looks.records);
       none = λ new stands. f.1 (c.aliases_at.ensures.need stands.0 stands.1);
     }))
 
@@ -173,7 +173,7 @@ returns-in_err-parents-clause-first c =
     let f = c.in_err-parents.ensures.named part e in
     let aliases = read_aliases cache numbers (length cache) c.aliases_at.new.taking.records c.in_ok-aliases.aliases.items
     (rw c.in_ok-aliases.ensures.read at c.aliases_at.ensures.stand)
-    (omega (arith, c.requires.room.0, c.read_header.ensures.records, c.aliases_at.ensures.taken)) in
+    (omega (arith, c.requires.room.0, c.read_header.ensures.looks.records, c.aliases_at.ensures.looks.records)) in
     subst (IsFirstUnread cache) f.0 (record {
       numbers = numbers;
       header = rw c.in_ok-header.ensures.read at c.read_header.ensures.header;
@@ -191,7 +191,7 @@ returns-in_err-literals-clause-first c =
     let f = c.in_err-literals.ensures.named part e in
     let aliases = read_aliases cache numbers (length cache) c.aliases_at.new.taking.records c.in_ok-aliases.aliases.items
     (rw c.in_ok-aliases.ensures.read at c.aliases_at.ensures.stand)
-    (omega (arith, c.requires.room.0, c.read_header.ensures.records, c.aliases_at.ensures.taken)) in
+    (omega (arith, c.requires.room.0, c.read_header.ensures.looks.records, c.aliases_at.ensures.looks.records)) in
     let parents = read_parents cache numbers c.aliases_at.new.taking.records c.parents_at.new.taking.records c.in_ok-parents.parents.items
     (rw c.in_ok-parents.ensures.read at c.parents_at.ensures.stand) (rw c.in_ok-parents.ensures.read at c.parents_at.ensures.taken) in
     subst (IsFirstUnread cache) f.0 (record {
@@ -212,7 +212,7 @@ returns-in_err-leaves-clause-first c =
     let f = c.in_err-leaves.ensures.named part e in
     let aliases = read_aliases cache numbers (length cache) c.aliases_at.new.taking.records c.in_ok-aliases.aliases.items
     (rw c.in_ok-aliases.ensures.read at c.aliases_at.ensures.stand)
-    (omega (arith, c.requires.room.0, c.read_header.ensures.records, c.aliases_at.ensures.taken)) in
+    (omega (arith, c.requires.room.0, c.read_header.ensures.looks.records, c.aliases_at.ensures.looks.records)) in
     let parents = read_parents cache numbers c.aliases_at.new.taking.records c.parents_at.new.taking.records c.in_ok-parents.parents.items
     (rw c.in_ok-parents.ensures.read at c.parents_at.ensures.stand) (rw c.in_ok-parents.ensures.read at c.parents_at.ensures.taken) in
     let literals = read_literals cache numbers c.parents_at.new.taking.records c.literals_at.new.taking.records c.in_ok-literals.literals.items
@@ -235,7 +235,7 @@ returns-in_err-globs-clause-first c =
     let f = c.in_err-globs.ensures.named part e in
     let aliases = read_aliases cache numbers (length cache) c.aliases_at.new.taking.records c.in_ok-aliases.aliases.items
     (rw c.in_ok-aliases.ensures.read at c.aliases_at.ensures.stand)
-    (omega (arith, c.requires.room.0, c.read_header.ensures.records, c.aliases_at.ensures.taken)) in
+    (omega (arith, c.requires.room.0, c.read_header.ensures.looks.records, c.aliases_at.ensures.looks.records)) in
     let parents = read_parents cache numbers c.aliases_at.new.taking.records c.parents_at.new.taking.records c.in_ok-parents.parents.items
     (rw c.in_ok-parents.ensures.read at c.parents_at.ensures.stand) (rw c.in_ok-parents.ensures.read at c.parents_at.ensures.taken) in
     let literals = read_literals cache numbers c.parents_at.new.taking.records c.literals_at.new.taking.records c.in_ok-literals.literals.items
@@ -260,7 +260,7 @@ returns-in_err-sections-clause-first c =
     let f = c.in_err-sections.ensures.named part e in
     let aliases = read_aliases cache numbers (length cache) c.aliases_at.new.taking.records c.in_ok-aliases.aliases.items
     (rw c.in_ok-aliases.ensures.read at c.aliases_at.ensures.stand)
-    (omega (arith, c.requires.room.0, c.read_header.ensures.records, c.aliases_at.ensures.taken)) in
+    (omega (arith, c.requires.room.0, c.read_header.ensures.looks.records, c.aliases_at.ensures.looks.records)) in
     let parents = read_parents cache numbers c.aliases_at.new.taking.records c.parents_at.new.taking.records c.in_ok-parents.parents.items
     (rw c.in_ok-parents.ensures.read at c.parents_at.ensures.stand) (rw c.in_ok-parents.ensures.read at c.parents_at.ensures.taken) in
     let literals = read_literals cache numbers c.parents_at.new.taking.records c.literals_at.new.taking.records c.in_ok-literals.literals.items
@@ -282,12 +282,12 @@ returns-in_err-sections-clause-first c =
           arith,
           stands.2,
           c.requires.room.1,
-          c.read_header.ensures.value_bytes,
-          c.aliases_at.ensures.value_bytes,
-          c.parents_at.ensures.value_bytes,
-          c.literals_at.ensures.value_bytes,
-          c.leaves_at.ensures.value_bytes,
-          c.globs_at.ensures.value_bytes,
+          c.read_header.ensures.looks.takes.value_bytes,
+          c.aliases_at.ensures.looks.takes.value_bytes,
+          c.parents_at.ensures.takes.value_bytes,
+          c.literals_at.ensures.takes.value_bytes,
+          c.leaves_at.ensures.takes.value_bytes,
+          c.globs_at.ensures.takes.value_bytes,
         );
       }));
     }))
@@ -301,7 +301,7 @@ returns-in_err-icons-clause-first c =
     let f = c.in_err-icons.ensures.named part e in
     let aliases = read_aliases cache numbers (length cache) c.aliases_at.new.taking.records c.in_ok-aliases.aliases.items
     (rw c.in_ok-aliases.ensures.read at c.aliases_at.ensures.stand)
-    (omega (arith, c.requires.room.0, c.read_header.ensures.records, c.aliases_at.ensures.taken)) in
+    (omega (arith, c.requires.room.0, c.read_header.ensures.looks.records, c.aliases_at.ensures.looks.records)) in
     let parents = read_parents cache numbers c.aliases_at.new.taking.records c.parents_at.new.taking.records c.in_ok-parents.parents.items
     (rw c.in_ok-parents.ensures.read at c.parents_at.ensures.stand) (rw c.in_ok-parents.ensures.read at c.parents_at.ensures.taken) in
     let literals = read_literals cache numbers c.parents_at.new.taking.records c.literals_at.new.taking.records c.in_ok-literals.literals.items
@@ -318,12 +318,12 @@ returns-in_err-icons-clause-first c =
       arith,
       took.value_bytes,
       c.requires.room.1,
-      c.read_header.ensures.value_bytes,
-      c.aliases_at.ensures.value_bytes,
-      c.parents_at.ensures.value_bytes,
-      c.literals_at.ensures.value_bytes,
-      c.leaves_at.ensures.value_bytes,
-      c.globs_at.ensures.value_bytes,
+      c.read_header.ensures.looks.takes.value_bytes,
+      c.aliases_at.ensures.looks.takes.value_bytes,
+      c.parents_at.ensures.takes.value_bytes,
+      c.literals_at.ensures.takes.value_bytes,
+      c.leaves_at.ensures.takes.value_bytes,
+      c.globs_at.ensures.takes.value_bytes,
     ))
     took.records in
     subst (IsFirstUnread cache) f.0 (record {
@@ -345,7 +345,7 @@ returns-in_err-generic_icons-clause-first c =
     let f = c.in_err-generic_icons.ensures.named part e in
     let aliases = read_aliases cache numbers (length cache) c.aliases_at.new.taking.records c.in_ok-aliases.aliases.items
     (rw c.in_ok-aliases.ensures.read at c.aliases_at.ensures.stand)
-    (omega (arith, c.requires.room.0, c.read_header.ensures.records, c.aliases_at.ensures.taken)) in
+    (omega (arith, c.requires.room.0, c.read_header.ensures.looks.records, c.aliases_at.ensures.looks.records)) in
     let parents = read_parents cache numbers c.aliases_at.new.taking.records c.parents_at.new.taking.records c.in_ok-parents.parents.items
     (rw c.in_ok-parents.ensures.read at c.parents_at.ensures.stand) (rw c.in_ok-parents.ensures.read at c.parents_at.ensures.taken) in
     let literals = read_literals cache numbers c.parents_at.new.taking.records c.literals_at.new.taking.records c.in_ok-literals.literals.items
@@ -362,12 +362,12 @@ returns-in_err-generic_icons-clause-first c =
       arith,
       took.value_bytes,
       c.requires.room.1,
-      c.read_header.ensures.value_bytes,
-      c.aliases_at.ensures.value_bytes,
-      c.parents_at.ensures.value_bytes,
-      c.literals_at.ensures.value_bytes,
-      c.leaves_at.ensures.value_bytes,
-      c.globs_at.ensures.value_bytes,
+      c.read_header.ensures.looks.takes.value_bytes,
+      c.aliases_at.ensures.looks.takes.value_bytes,
+      c.parents_at.ensures.takes.value_bytes,
+      c.literals_at.ensures.takes.value_bytes,
+      c.leaves_at.ensures.takes.value_bytes,
+      c.globs_at.ensures.takes.value_bytes,
     ))
     took.records in
     let icons = read_icons cache numbers c.sections_at.new.taking.records c.icons_at.new.taking.records c.in_ok-icons.icons.items

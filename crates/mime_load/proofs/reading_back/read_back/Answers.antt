@@ -1,7 +1,6 @@
 use Rattle.std.proofs.Common.{◌≡◌}
 use Rattle.std.proofs.lemmas.Result.{IfErr-weaker}
 use Rattle.mime_load.specs.declared.part.LoadFault.TheVariants as load
-use Rattle.mime_load.specs.FirstUnread.{IsFirstUnread}
 use Rattle.mime_load.proofs.UnreadLemmas.{memory_alone}
 use Rattle.mime_load.proofs.reading_back.read_back.Goals as goal
 

@@ -6,19 +6,18 @@ use Rattle.mime_base.specs.Database.Limits.{KeepsLimits}
 use Rattle.mime_base.specs.Format.Records.{RecordsAt}
 use Rattle.mime_base.specs.Format.Rules.{IsRule}
 use Rattle.mime_load.specs.Lent.{plain_rules}
-use Rattle.mime_load.specs.Parts.{IsLiteral}
-use Rattle.mime_load.specs.Taking.{Pays}
+use Rattle.mime_load.specs.Parts.{IsStoredLiteral}
+use Rattle.mime_load.specs.Taking.{TakesOnlyRecords}
 use Rattle.mime_load.proofs.RuleLists.{stored_before}
 use Rattle.mime_load.proofs.rules.literals_at.Given as goal
 
 abbrev pub invariant-loop-i : goal.invariant-loop-i
 invariant-loop-i l = record {
   size : length l.rules.items ≡ l.i;
-  fit : All IsLiteral (plain_rules l.rules.items);
+  fit : All IsStoredLiteral (plain_rules l.rules.items);
   limits : All KeepsLimits (plain_rules l.rules.items);
   sorted : IsSortedBy stored_before (plain_rules l.rules.items);
   stand : RecordsAt (Stands l.source.counted.now) 12 (IsRule (Stands l.source.counted.now)) (l.start + 4) (plain_rules l.rules.items);
   records : l.taking.records + 12 * l.i ≡ l.initial.taking.records;
-  value_bytes : l.taking.value_bytes ≡ l.initial.taking.value_bytes;
-  pays : Pays 0 0 l.initial.taking l.taking;
+  takes : TakesOnlyRecords 0 0 l.initial.taking l.taking;
 }

@@ -28,7 +28,7 @@ returns-in_err-lines-clause-need c = λ section stands room.
     let cache = c.args.source.now.counted.now in
     let read = section_read cache c.args.at c.in_ok-priority.field-0 section c.in_ok-priority.ensures.numbers stands in
     let taken = c.in_ok-priority.ensures.taken in
-    let bytes = c.in_ok-priority.ensures.value_bytes in
+    let bytes = c.in_ok-priority.ensures.visits.value_bytes in
     let p = err_from_is_err_and c.from_residual-in_err-lines.result c.from_residual-in_err-lines.ensures.1 in
     rw (p.1, p.2) (c.in_err-lines.ensures.need section.lines read.count read.lines (record {
       records = omega (arith, room.records, taken);

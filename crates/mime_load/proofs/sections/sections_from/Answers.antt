@@ -7,7 +7,7 @@ use Rattle.mime_load.specs.Lent.{plain_section, plain_sections}
 use Rattle.mime_load.specs.Taking.{HasSectionRoom}
 use Rattle.mime_load.proofs.SectionLemmas.{sections_more}
 use Rattle.mime_load.proofs.WholeLemmas.{next_room, next_section}
-use Rattle.mime_load.proofs.TakingLemmas.{pays_then, sections_taken}
+use Rattle.mime_load.proofs.TakingLemmas.{wide_then, sections_taken}
 use Rattle.mime_load.proofs.sections.sections_from.Goals as goal
 
 pub loop-i-preserved : goal.loop-i-preserved
@@ -20,8 +20,7 @@ loop-i-preserved c =
       count = ap length pushed ∙ length_push c.loop-i.sections.items c.in_ok-section.section ∙ ap (λ (n : ℕ). n + 1) before.count;
       taken = rw pushed (sections_taken c.args.taking.now c.loop-i.taking c.section_at.new.taking c.loop-i.sections.items
           c.in_ok-section.section before.taken c.in_ok-section.ensures.taken);
-      pays = pays_then c.args.taking.now c.loop-i.taking c.section_at.new.taking before.pays c.section_at.ensures.pays;
-      wide = omega (arith, before.wide, c.section_at.ensures.wide);
+      wide = wide_then c.args.taking.now c.loop-i.taking c.section_at.new.taking before.wide c.section_at.ensures.wide;
     }
 
 pub returns-in_err-section-clause-need : goal.returns-in_err-section-clause-need

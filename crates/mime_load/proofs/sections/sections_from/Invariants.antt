@@ -1,7 +1,7 @@
 use Rattle.std.proofs.Common.{◌≡◌, length}
 use Rattle.mime_load.specs.Lent.{plain_sections}
 use Rattle.mime_load.specs.MagicStanding.{SectionsStand}
-use Rattle.mime_load.specs.Taking.{Pays, PaysWide, TakesSections}
+use Rattle.mime_load.specs.Taking.{PaysWide, TakesSections}
 use Rattle.mime_load.proofs.sections.sections_from.Given as goal
 
 abbrev pub invariant-loop-i : goal.invariant-loop-i
@@ -9,6 +9,5 @@ invariant-loop-i l = record {
   stand : SectionsStand l.source.counted.now l.first (plain_sections l.sections.items);
   count : length l.sections.items ≡ l.i;
   taken : TakesSections l.initial.taking l.taking (plain_sections l.sections.items);
-  pays : Pays 0 0 l.initial.taking l.taking;
   wide : PaysWide 0 l.initial.taking l.taking;
 }

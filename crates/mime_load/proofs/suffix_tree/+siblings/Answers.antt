@@ -9,36 +9,48 @@ use Rattle.mime_load.proofs.RuleLists.{mapped_pushed}
 use Rattle.mime_load.proofs.SiblingCounts.{same_counts}
 use Rattle.mime_load.proofs.NextSiblings.{lower_before, next_as, next_sibling, none_before}
 use Rattle.mime_load.proofs.SiblingsRead.{sibling_inside, sibling_read}
-use Rattle.mime_load.proofs.TakingLemmas.{pays_more}
+use Rattle.mime_load.proofs.TakingLemmas.{takes_more}
 use Rattle.mime_load.proofs.TreeWalks.{more_leaves, some_leaves, three, walked_as, walked_leaf, walked_node, walked_none}
 use Rattle.mime_load.proofs.suffix_tree.+siblings.Goals as goal
 
-pub read_sibling-returns-then-character-eq0-clause-walked :
-    goal.read_sibling-returns-then-character-eq0-clause-walked
-read_sibling-returns-then-character-eq0-clause-walked t c = λ count all first w.
-    let numbers = c.in_ok-numbers.numbers in
-    walked_leaf c.args.source.now.counted.now c.args.at count (get_or numbers 1 0) (get_or numbers 2 0) (get_or numbers 0 0)
-    c.args.ending.now c.args.next first (plain_leaves c.args.rules.now.items) (plain_leaves c.push.new.self.items) all
-    c.args.taking.now.records c.read_leaf.new.taking.records (plain_leaf c.in_ok-rule.rule)
-    (subst (CardsAt (Stands c.args.source.now.counted.now) c.args.at) (three numbers (search rules)) c.in_ok-numbers.ensures.stand)
-    c.if-character-eq0.true c.in_ok-rule.ensures.is c.requires.next.0
-    (mapped_pushed plain_leaf c.args.rules.now.items c.push.new.self.items c.in_ok-rule.rule c.in_ok-push.ensures.items)
-    (omega (arith, c.in_ok-take_records.ensures.taken, c.read_numbers.ensures.records, c.read_leaf.ensures.records)) w
+pub read_sibling-returns-then-character-eq0-clause-reads : goal.read_sibling-returns-then-character-eq0-clause-reads
+read_sibling-returns-then-character-eq0-clause-reads t c = record {
+  walked = λ count all first w.
+      let numbers = c.in_ok-numbers.numbers in
+      walked_leaf c.args.source.now.counted.now c.args.at count (get_or numbers 1 0) (get_or numbers 2 0) (get_or numbers 0 0)
+      c.args.ending.now c.args.next first (plain_leaves c.args.rules.now.items) (plain_leaves c.push.new.self.items) all
+      c.args.taking.now.records c.read_leaf.new.taking.records (plain_leaf c.in_ok-rule.rule)
+      (subst (CardsAt (Stands c.args.source.now.counted.now) c.args.at) (three numbers (search rules)) c.in_ok-numbers.ensures.stand)
+      c.if-character-eq0.true c.in_ok-rule.ensures.is c.requires.next.0
+      (mapped_pushed plain_leaf c.args.rules.now.items c.push.new.self.items c.in_ok-rule.rule c.in_ok-push.ensures.items)
+      (omega (arith, c.in_ok-take_records.ensures.taken, c.read_numbers.ensures.looks.records, c.read_leaf.ensures.looks.records)) w;
+  is_next = λ count.
+      lower_before c.args.source.now.counted.now c.in_ok-numbers.numbers c.args.at count 1 (search rules) c.in_ok-numbers.ensures.stand
+      (omega (arith, c.if-character-eq0.true)) (omega arith);
+  fits = (omega arith, omega arith);
+}
 
-pub read_sibling-returns-clause-walked : goal.read_sibling-returns-clause-walked
-read_sibling-returns-clause-walked t c = λ count all first w.
-    let numbers = c.in_ok-numbers.numbers in
-    let down : Walked c.args.source.now.counted.now (get_or numbers 2 0) (get_or numbers 1 0) (get_or numbers 0 0 ∷ c.args.ending.now) 1
-    (plain_leaves c.args.rules.now.items) (plain_leaves c.read_siblings.new.rules.items) c.read_numbers.new.taking.records
-    c.read_siblings.new.taking.records =
-    rw (c.from.ensures, c.from-2.ensures, c.in_ok-grow.ensures.grown) at c.in_ok-read_siblings.ensures.walked in
-    walked_node c.args.source.now.counted.now c.args.at count (get_or numbers 1 0) (get_or numbers 2 0) (get_or numbers 0 0)
-    c.args.ending.now c.args.next first (plain_leaves c.args.rules.now.items) (plain_leaves c.read_siblings.new.rules.items) all
-    c.args.taking.now.records c.read_numbers.new.taking.records c.read_siblings.new.taking.records
-    (subst (CardsAt (Stands c.args.source.now.counted.now) c.args.at) (three numbers (search rules)) c.in_ok-numbers.ensures.stand)
-    (search rules) (omega (arith, c.if-next-character.false)) down
-    (more_leaves c.args.rules.now.items c.read_siblings.new.rules.items _ down.rules (search rules))
-    (omega (arith, c.in_ok-take_records.ensures.taken, c.read_numbers.ensures.records)) w
+pub read_sibling-returns-clause-reads : goal.read_sibling-returns-clause-reads
+read_sibling-returns-clause-reads t c = record {
+  walked = λ count all first w.
+      let numbers = c.in_ok-numbers.numbers in
+      let down : Walked c.args.source.now.counted.now (get_or numbers 2 0) (get_or numbers 1 0) (get_or numbers 0 0 ∷ c.args.ending.now) 1
+      (plain_leaves c.args.rules.now.items) (plain_leaves c.read_siblings.new.rules.items) c.read_numbers.new.taking.records
+      c.read_siblings.new.taking.records =
+      rw c.in_ok-grow.ensures.grown at c.in_ok-read_siblings.ensures.walked in
+      walked_node c.args.source.now.counted.now c.args.at count (get_or numbers 1 0) (get_or numbers 2 0) (get_or numbers 0 0)
+      c.args.ending.now c.args.next first (plain_leaves c.args.rules.now.items) (plain_leaves c.read_siblings.new.rules.items) all
+      c.args.taking.now.records c.read_numbers.new.taking.records c.read_siblings.new.taking.records
+      (subst (CardsAt (Stands c.args.source.now.counted.now) c.args.at) (three numbers (search rules)) c.in_ok-numbers.ensures.stand)
+      (search rules) (omega (arith, c.if-next-character.false)) down
+      (more_leaves c.args.rules.now.items c.read_siblings.new.rules.items _ down.rules (search rules))
+      (omega (arith, c.in_ok-take_records.ensures.taken, c.read_numbers.ensures.looks.records)) w;
+  is_next = λ count.
+      let numbers = c.in_ok-numbers.numbers in
+      lower_before c.args.source.now.counted.now c.in_ok-numbers.numbers c.args.at count (get_or numbers 0 0) (search rules)
+      c.in_ok-numbers.ensures.stand (omega arith) (omega (arith, c.if-character-eq0.false));
+  fits = (omega (arith, c.if-character-eq0.false), omega (arith, c.if-next-character.false, c.requires.next.1));
+}
 
 pub read_siblings-loop-done-init : goal.read_siblings-loop-done-init
 read_siblings-loop-done-init t c = record {
@@ -48,49 +60,48 @@ read_siblings-loop-done-init t c = record {
   ending = refl;
   some = omega arith;
   fits = omega arith;
-  value_bytes = refl;
-  pays = record { nodes_paid = omega arith; bytes_paid = omega arith };
+  takes = record { value_bytes = refl; pays = record { nodes_paid = omega arith; bytes_paid = omega arith } };
 }
 
 pub read_siblings-loop-done-preserved : goal.read_siblings-loop-done-preserved
 read_siblings-loop-done-preserved t c =
-    let at : ℕ = c.args.first + 12 * (c.args.count - 1 - c.loop-done.done) in
+    let at : ℕ = c.from.result + 12 * c.from-in-loop-done.result in
     let old = c.loop-done.invariant.walked in
     let here : Walked c.args.source.now.counted.now (at + 12) c.loop-done.done c.loop-done.ending c.loop-done.next
     (plain_leaves c.args.rules.now.items) (plain_leaves c.loop-done.rules.items) c.args.taking.now.records c.loop-done.taking.records =
     walked_as (c.args.first + 12 * (c.args.count - c.loop-done.done)) (at + 12) c.args.ending.now c.loop-done.ending
-    (omega (arith, c.loop-done-test.true)) (sym c.loop-done.invariant.ending) old in
-    let steps = c.in_ok-before.ensures.walked in
-    let fits = c.in_ok-before.ensures.fits in
+    (omega (arith, c.loop-done-test.true, c.from.ensures, c.from-in-loop-done.ensures)) (sym c.loop-done.invariant.ending) old in
+    let sibling = c.in_ok-before.ensures.reads in
     record {
       walked = walked_as at (c.args.first + 12 * (c.args.count - (c.loop-done.done + 1))) c.loop-done.ending c.args.ending.now
-          (omega arith) c.loop-done.invariant.ending
-          (steps c.loop-done.done c.args.taking.now.records (plain_leaves c.args.rules.now.items) here);
+          (omega (arith, c.from.ensures, c.from-in-loop-done.ensures)) c.loop-done.invariant.ending
+          (sibling.walked c.loop-done.done c.args.taking.now.records (plain_leaves c.args.rules.now.items) here);
       is_next = next_as c.args.source.now.counted.now at (c.args.first + 12 * (c.args.count - (c.loop-done.done + 1)))
           (c.loop-done.done + 1)
-          c.in_ok-before.before (omega arith) (c.in_ok-before.ensures.is_next c.loop-done.done);
+          c.in_ok-before.before (omega (arith, c.from.ensures, c.from-in-loop-done.ensures)) (sibling.is_next c.loop-done.done);
       ending = c.in_ok-before.ensures.ending_stays ∙ c.loop-done.invariant.ending;
-      some = fits.0;
-      fits = fits.1;
-      value_bytes = c.read_sibling.ensures.value_bytes ∙ c.loop-done.invariant.value_bytes;
-      pays = pays_more 0 0 c.args.taking.now c.loop-done.taking c.read_sibling.new.taking c.loop-done.invariant.pays
-          c.read_sibling.ensures.pays;
+      some = sibling.fits.0;
+      fits = sibling.fits.1;
+      takes = takes_more 0 0 c.args.taking.now c.loop-done.taking c.read_sibling.new.taking c.loop-done.invariant.takes
+          c.read_sibling.ensures.takes;
     }
 
-pub read_siblings-returns-in_err-before-clause-pays : goal.read_siblings-returns-in_err-before-clause-pays
-read_siblings-returns-in_err-before-clause-pays t c =
-    pays_more 0 0 c.args.taking.now c.loop-done.taking c.read_sibling.new.taking c.loop-done.invariant.pays c.read_sibling.ensures.pays
+pub read_siblings-returns-in_err-before-clause-takes : goal.read_siblings-returns-in_err-before-clause-takes
+read_siblings-returns-in_err-before-clause-takes t c =
+    takes_more 0 0 c.args.taking.now c.loop-done.taking c.read_sibling.new.taking c.loop-done.invariant.takes c.read_sibling.ensures.takes
 
 pub read_siblings-returns-in_err-before-clause-need : goal.read_siblings-returns-in_err-before-clause-need
 read_siblings-returns-in_err-before-clause-need t c = λ tree stands count room.
     let cache = c.args.source.now.counted.now in
-    let at : ℕ = c.args.first + 12 * (c.args.count - 1 - c.loop-done.done) in
-    let place : c.args.first + 12 * (c.args.count - c.loop-done.done) ≡ at + 12 = omega (arith, c.loop-done-test.true) in
+    let at : ℕ = c.from.result + 12 * c.from-in-loop-done.result in
+    let place : c.args.first + 12 * (c.args.count - c.loop-done.done) ≡ at + 12 =
+    omega (arith, c.loop-done-test.true, c.from.ensures, c.from-in-loop-done.ensures) in
     let read = c.loop-done.invariant.walked in
     let there : TreeStands cache c.args.first c.loop-done.ending tree =
     subst (λ (e : List ℕ). TreeStands cache c.args.first e tree) (sym c.loop-done.invariant.ending) stands in
     let next = next_sibling cache c.args.first at 0 c.loop-done.ending tree read.tree (c.args.count - 1 - c.loop-done.done) c.loop-done.done
-    c.loop-done.next c.args.taking.now.records c.loop-done.taking.records there (omega (arith, count, c.loop-done-test.true)) refl
+    c.loop-done.next c.args.taking.now.records c.loop-done.taking.records there (omega (arith, count, c.loop-done-test.true))
+    (omega (arith, c.from.ensures, c.from-in-loop-done.ensures))
     (read.ordered 0 (omega (arith, c.loop-done.invariant.some)))
     (subst (λ (a : ℕ). TreeAt (Stands cache) a read.tree) place read.stand) read.siblings c.loop-done.invariant.some
     (next_as cache (c.args.first + 12 * (c.args.count - c.loop-done.done)) (at + 12) c.loop-done.done c.loop-done.next place
@@ -117,11 +128,6 @@ read_sibling-returns-in_err-rule-clause-need t c = λ tree stands some low room.
     let p = err_from_is_err_and c.from_residual-in_err-rule.result c.from_residual-in_err-rule.ensures.1 in
     rw (p.1, p.2) (c.in_err-rule.ensures.need one.rule one.is)
 
-pub read_sibling-returns-then-character-eq0-clause-is_next : goal.read_sibling-returns-then-character-eq0-clause-is_next
-read_sibling-returns-then-character-eq0-clause-is_next t c = λ count.
-    lower_before c.args.source.now.counted.now c.in_ok-numbers.numbers c.args.at count 1 (search rules) c.in_ok-numbers.ensures.stand
-    (omega (arith, c.if-character-eq0.true)) (omega arith)
-
 pub read_sibling-returns-then-length-eq-DEEPEST-clause-need : goal.read_sibling-returns-then-length-eq-DEEPEST-clause-need
 read_sibling-returns-then-length-eq-DEEPEST-clause-need t c = λ tree stands some low room.
     let read = sibling_read c.args.source.now.counted.now c.in_ok-numbers.numbers c.args.at c.args.ending.now tree (search rules)
@@ -134,10 +140,10 @@ read_sibling-returns-in_err-read_siblings-clause-need t c = λ tree stands some 
     let read = sibling_read c.args.source.now.counted.now c.in_ok-numbers.numbers c.args.at c.args.ending.now tree (search rules)
     c.in_ok-numbers.ensures.stand stands some in
     let below = read.node_read (omega (arith, c.if-character-eq0.false)) in
-    let need = rw (c.from.ensures, c.from-2.ensures, c.in_ok-grow.ensures.grown) at c.in_err-read_siblings.ensures.need in
+    let need = rw c.in_ok-grow.ensures.grown at c.in_err-read_siblings.ensures.need in
     let p = err_from_is_err_and c.from_residual-in_err-read_siblings.result c.from_residual-in_err-read_siblings.ensures.1 in
     rw (p.1, p.2) (need below.below below.stands below.siblings
-    (omega (arith, room, below.counted, c.in_ok-take_records.ensures.taken, c.read_numbers.ensures.records)))
+    (omega (arith, room, below.counted, c.in_ok-take_records.ensures.taken, c.read_numbers.ensures.looks.records)))
 
 pub read_sibling-returns-then-len-before-clause-need : goal.read_sibling-returns-then-len-before-clause-need
 read_sibling-returns-then-len-before-clause-need t c = λ tree stands some low room.
@@ -150,15 +156,9 @@ read_sibling-returns-then-len-before-clause-need t c = λ tree stands some low r
     let down : Walked cache (get_or numbers 2 0) (get_or numbers 1 0) (get_or numbers 0 0 ∷ c.args.ending.now) 1
     (plain_leaves c.args.rules.now.items) (plain_leaves c.read_siblings.new.rules.items) c.read_numbers.new.taking.records
     c.read_siblings.new.taking.records =
-    rw (c.from.ensures, c.from-2.ensures, c.in_ok-grow.ensures.grown) at c.in_ok-read_siblings.ensures.walked in
+    rw c.in_ok-grow.ensures.grown at c.in_ok-read_siblings.ensures.walked in
     let same = same_counts cache (get_or numbers 2 0) 0 below.stands.before down.tree below.below (down.ordered 0 (omega arith))
     below.stands.ordered down.stand below.stands.stand (down.siblings ∙ sym below.siblings) in
     absurd (some_leaves c.args.rules.now.items c.read_siblings.new.rules.items down.tree down.rules
     (omega (arith, same.leaves, below.leaves))
     (search rules))
-
-pub read_sibling-returns-clause-is_next : goal.read_sibling-returns-clause-is_next
-read_sibling-returns-clause-is_next t c = λ count.
-    let numbers = c.in_ok-numbers.numbers in
-    lower_before c.args.source.now.counted.now c.in_ok-numbers.numbers c.args.at count (get_or numbers 0 0) (search rules)
-    c.in_ok-numbers.ensures.stand (omega arith) (omega (arith, c.if-character-eq0.false))

@@ -1,6 +1,6 @@
 use Rattle.std.proofs.Common.{◌≡◌, ◌+◌, ◌-◌, ◌*◌, ◌≤◌, length}
 use Rattle.mime_load.specs.Lent.{plain_leaves}
-use Rattle.mime_load.specs.Taking.{Pays}
+use Rattle.mime_load.specs.Taking.{TakesOnlyRecords}
 use Rattle.mime_load.specs.Walks.{IsNext, Walked}
 use Rattle.mime_load.proofs.suffix_tree.+siblings.Given as goal
 
@@ -18,6 +18,5 @@ invariant-read_siblings-loop-done l = record {
   ending : l.ending ≡ l.initial.ending;
   some : 1 ≤ l.next;
   fits : l.next ≤ 256;
-  value_bytes : l.taking.value_bytes ≡ l.initial.taking.value_bytes;
-  pays : Pays 0 0 l.initial.taking l.taking;
+  takes : TakesOnlyRecords 0 0 l.initial.taking l.taking;
 }

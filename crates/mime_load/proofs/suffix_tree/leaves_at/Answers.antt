@@ -18,7 +18,7 @@ returns-clause-stand c =
     (plain_leaves c.reverse.new.self.items) c.read_numbers.new.taking.records c.read_siblings.new.taking.records
     (subst (CardsAt (Stands c.args.source.now.counted.now) c.args.at) (two numbers (search rules))
     (rw c.from.ensures at c.in_ok-numbers.ensures.stand))
-    (rw (c.from-2.ensures, c.from-3.ensures, c.none-ending.ensures, c.new-rules.ensures.items) at c.in_ok-read_siblings.ensures.walked)
+    (rw (c.none-ending.ensures, c.new-rules.ensures.items) at c.in_ok-read_siblings.ensures.walked)
     (leaves_reversed c.read_siblings.new.rules.items c.reverse.new.self.items c.reverse.ensures.items)
 
 pub returns-clause-taken : goal.returns-clause-taken
@@ -28,9 +28,9 @@ returns-clause-taken c =
     (plain_leaves c.reverse.new.self.items) c.read_numbers.new.taking.records c.read_siblings.new.taking.records
     (subst (CardsAt (Stands c.args.source.now.counted.now) c.args.at) (two numbers (search rules))
     (rw c.from.ensures at c.in_ok-numbers.ensures.stand))
-    (rw (c.from-2.ensures, c.from-3.ensures, c.none-ending.ensures, c.new-rules.ensures.items) at c.in_ok-read_siblings.ensures.walked)
+    (rw (c.none-ending.ensures, c.new-rules.ensures.items) at c.in_ok-read_siblings.ensures.walked)
     (leaves_reversed c.read_siblings.new.rules.items c.reverse.new.self.items c.reverse.ensures.items)
-    ∙ c.read_numbers.ensures.records
+    ∙ c.read_numbers.ensures.looks.records
 
 pub returns-in_err-numbers-clause-need : goal.returns-in_err-numbers-clause-need
 returns-in_err-numbers-clause-need c = λ rules list room.
@@ -53,6 +53,6 @@ returns-in_err-read_siblings-clause-need c =
       ended = tree_ended cache c.args.at rules list;
     } in
     let count : sibling_count list.stand.tree ≡ get_or numbers 0 0 = sym (ap (λ (ns : List ℕ). get_or ns 0 0) e) in
-    let need = rw (c.from-2.ensures, c.from-3.ensures, c.none-ending.ensures) at c.in_err-read_siblings.ensures.need in
+    let need = rw c.none-ending.ensures at c.in_err-read_siblings.ensures.need in
     let p = err_from_is_err_and c.from_residual-in_err-read_siblings.result c.from_residual-in_err-read_siblings.ensures.1 in
-    rw (p.1, p.2) (need list.stand.tree stands count (omega (arith, room, list.stand.size, c.read_numbers.ensures.records)))
+    rw (p.1, p.2) (need list.stand.tree stands count (omega (arith, room, list.stand.size, c.read_numbers.ensures.looks.records)))

@@ -3,7 +3,7 @@ use Rattle.mime_lookup.specs.Cached.{cause_of}
 use Rattle.mime_lookup.specs.Content.{known_content}
 use Rattle.mime_lookup.specs.Costs.{glob_cost, record_cost}
 use Rattle.mime_lookup.specs.StepFaults.{of_choice, of_head}
-use Rattle.mime_lookup.proofs.OrderLemmas.ByContents.{suffices_globs, used_for}
+use Rattle.mime_lookup.proofs.OrderLemmas.ByContents.{suffices_globs, used_unread}
 use Rattle.mime_lookup.proofs.CostLemmas.Costs.{costs_halves, costs_looks, costs_then, costs_wider}
 use Rattle.mime_lookup.proofs.LookUpLemmas.LookUps.{chosen_anyway, chosen_front, content_stands, decides, front_stands, no_content, stops_front}
 use Rattle.mime_lookup.proofs.ContentLemmas.ReadHalves.{reads_chosen, reads_decided, reads_early, reads_late, reads_refused}
@@ -16,7 +16,8 @@ pub returns-in_err-given-clause-stops : goal.returns-in_err-given-clause-stops
 returns-in_err-given-clause-stops g c =
     let fault = c.in_err-given.field-0.0 in
     passed_on _ (cause_of fault) c.from_residual.result c.from_residual.ensures.1
-    (stops_then (cause_of fault) c.in_err-given.ensures.stops (used_for c.args.indexed.now c.by_name.new.spending.budget (λ none. tt))
+    (stops_then (cause_of fault) c.in_err-given.ensures.stops
+    (used_unread c.args.indexed.now c.args.spending.now.budget c.args.spending.now.budget c.by_name.new.spending.budget tt)
     (λ b enough. (suffices_globs c.args.indexed.now c.args.question.now.name.now (c.args.content.now ≡ None) b c.args.question.now.order enough.0, omega (arith, enough.1.records)))
     (λ b enough none. absurd none))
 
@@ -83,14 +84,14 @@ returns-in_err-front-in-Left-clause-reads g c =
     reads_refused g.R.Read.remaining g.R.Content.tally g.R.Content.health c.args.indexed.now c.args.question.now.name.now c.args.question.now.order
     c.in-Left.candidates (rw c.in-Left.is at c.in_ok-given.ensures.gives) c.args.content.now c.read_content.new.content
     c.read_content.new.read stop.field-0.0 c.from_residual-in_err-front-in-Left.result
-    c.from_residual-in_err-front-in-Left.ensures.1 stop.ensures.reader stop.ensures.asks c.read_content.ensures.head
+    c.from_residual-in_err-front-in-Left.ensures.1 stop.ensures.takes
 
 pub returns-in_err-front-in-Left-clause-cost : goal.returns-in_err-front-in-Left-clause-cost
 returns-in_err-front-in-Left-clause-cost g c =
     let name = length c.args.question.now.name.now in
     let named = costs_wider (record_cost name) (c.read_content.new.read + 1) (glob_cost name) c.in_ok-given.ensures.costs.cost.alone
     (omega arith) (omega arith) (omega arith) in
-    costs_then _ named (costs_looks _ _ c.read_content.ensures.cost) (omega arith)
+    costs_then _ named (costs_looks _ _ c.read_content.ensures.costs.looks) (omega arith)
 
 pub returns-in_err-kind-in-Left-clause-stops : goal.returns-in_err-kind-in-Left-clause-stops
 returns-in_err-kind-in-Left-clause-stops g c =
@@ -102,8 +103,9 @@ returns-in_err-kind-in-Left-clause-stops g c =
     (rw c.in-Left.is at c.in_ok-given.ensures.gives) c.read_content.new.read
     (option_map (λ bytes. bytes.items) c.in_ok-front-in-Left.front) reads.front c.args.spending.now.budget c.read_content.new.spending.budget
     c.by_content.new.spending.budget (cause_of stop.field-0.0)
-    (omega (arith, costs.cost.alone.untouched refl, ap (λ (budget : Budget). budget.value_bytes) reads.cost.budget))
-    (λ b globs. omega (arith, costs.takes b globs, ap (λ (budget : Budget). budget.records) reads.cost.budget))
+    (omega (arith, costs.cost.alone.untouched refl, ap (λ (budget : Budget). budget.value_bytes) reads.costs.looks.budget))
+    (omega (arith, costs.cost.alone.records, ap (λ (budget : Budget). budget.records) reads.costs.looks.budget))
+    (λ b globs. omega (arith, costs.takes b globs, ap (λ (budget : Budget). budget.records) reads.costs.looks.budget))
     (rw c.as_deref-front.ensures.value at stop.ensures.stops))
 
 pub returns-in_err-kind-in-Left-clause-fault : goal.returns-in_err-kind-in-Left-clause-fault
@@ -120,12 +122,12 @@ returns-in_err-kind-in-Left-clause-reads g c =
     reads_late g.R.Read.remaining g.R.Content.tally g.R.Content.health c.args.indexed.now c.args.question.now.name.now c.args.question.now.order
     c.in-Left.candidates (rw c.in-Left.is at c.in_ok-given.ensures.gives) c.args.content.now c.read_content.new.content
     c.read_content.new.read _ c.in_err-kind-in-Left.field-0.0
-    c.from_residual-in_err-kind-in-Left.result c.from_residual-in_err-kind-in-Left.ensures.1 c.read_content.ensures.head
-    c.in_ok-front-in-Left.ensures.reader
+    c.from_residual-in_err-kind-in-Left.result c.from_residual-in_err-kind-in-Left.ensures.1
+    c.in_ok-front-in-Left.ensures.takes
 
 pub returns-in_err-kind-in-Left-clause-cost : goal.returns-in_err-kind-in-Left-clause-cost
 returns-in_err-kind-in-Left-clause-cost g c =
-    costs_halves ((rw c.in-Left.is at c.in_ok-given.ensures.costs).cost) c.in_ok-front-in-Left.ensures.cost
+    costs_halves ((rw c.in-Left.is at c.in_ok-given.ensures.costs).cost) c.in_ok-front-in-Left.ensures.costs.looks
     (rw (← c.in_ok-front-in-Left.ensures.front.size) at (rw c.as_deref-front.ensures.value at c.in_err-kind-in-Left.ensures.cost))
 
 pub returns-in_ok-kind-in-Left-clause-answers : goal.returns-in_ok-kind-in-Left-clause-answers
@@ -151,8 +153,8 @@ returns-in_ok-kind-in-Left-clause-reads g c =
     let reads = c.in_ok-front-in-Left.ensures in
     reads_chosen g.R.Read.remaining g.R.Content.tally g.R.Content.health c.args.indexed.now c.args.question.now.name.now c.args.question.now.order
     c.in-Left.candidates (rw c.in-Left.is at c.in_ok-given.ensures.gives) c.args.content.now c.read_content.new.content
-    c.read_content.new.read _ (option_map (λ bytes. bytes.items) c.in_ok-front-in-Left.front) c.in_ok-kind-in-Left.kind reads.reader
-    reads.asks reads.front c.read_content.ensures.head
+    c.read_content.new.read _ (option_map (λ bytes. bytes.items) c.in_ok-front-in-Left.front) c.in_ok-kind-in-Left.kind reads.takes
+    reads.front
 
 pub returns-in_ok-kind-in-Left-clause-near : goal.returns-in_ok-kind-in-Left-clause-near
 returns-in_ok-kind-in-Left-clause-near g c b globs decide =
@@ -165,12 +167,12 @@ returns-in_ok-kind-in-Left-clause-near g c b globs decide =
     omega (
       arith,
       costs.near b globs,
-      ap (λ (spending : Spending). spending.meter.nodes) (reads.nothing none),
+      ap (λ (spending : Spending). spending.meter.nodes) (reads.costs.nothing none),
       kind b globs given.2 (decides g.R.Read.remaining c.args.indexed.now c.args.question.now.name.now c.args.content.now c.args.question.now.order c.in-Left.candidates b
           given c.read_content.new.read (option_map (λ bytes. bytes.items) c.in_ok-front-in-Left.front) reads.front decide),
     )
 
 pub returns-in_ok-kind-in-Left-clause-cost : goal.returns-in_ok-kind-in-Left-clause-cost
 returns-in_ok-kind-in-Left-clause-cost g c =
-    costs_halves ((rw c.in-Left.is at c.in_ok-given.ensures.costs).cost) c.in_ok-front-in-Left.ensures.cost
+    costs_halves ((rw c.in-Left.is at c.in_ok-given.ensures.costs).cost) c.in_ok-front-in-Left.ensures.costs.looks
     (rw (← c.in_ok-front-in-Left.ensures.front.size) at (rw c.as_deref-front.ensures.value at c.in_ok-kind-in-Left.ensures.cost))

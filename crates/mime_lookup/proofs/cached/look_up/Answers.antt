@@ -5,8 +5,8 @@ use Rattle.mime_lookup.proofs.cached.look_up.Goals as goal
 pub returns-in-Ok-clause-stops : goal.returns-in-Ok-clause-stops
 returns-in-Ok-clause-stops g c = record {
   too_long = λ long. absurd (omega arith);
-  refused = λ short e opens. absurd (c.in-Ok.ensures.opens.refused e opens);
-  opened = c.in-Ok.ensures.opens.opened;
+  refused = λ short e opens. absurd (c.in-Ok.ensures.faults.refused e opens);
+  opened = c.in-Ok.ensures.faults.opened;
   fault = λ short. tt;
   spent = tt;
   need = λ b enough limit packed short. tt;
@@ -21,7 +21,7 @@ returns-in-Ok-clause-costs g c =
 
 pub returns-in-Err-clause-stops : goal.returns-in-Err-clause-stops
 returns-in-Err-clause-stops g c =
-    stops_cause _ _ c.in-Err.cause (omega arith) c.in-Err.ensures.opens.refused c.in-Err.ensures.fault c.in-Err.ensures.stops
+    stops_cause _ _ c.in-Err.cause (omega arith) c.in-Err.ensures.faults c.in-Err.ensures.stops
 
 pub returns-in-Err-clause-reads : goal.returns-in-Err-clause-reads
 returns-in-Err-clause-reads g c = reads_cause c.in-Err.ensures.reads

@@ -1,4 +1,4 @@
-use Rattle.std.proofs.Common.{◌≡◌, ◌∙◌, ℕ, true, false, List, Some, ap, sym}
+use Rattle.std.proofs.Common.{◌≡◌, ◌∙◌, ℕ, Option, true, false, List, Some, ap, sym}
 use Rattle.std.proofs.lemmas.Option.{IfSome_then}
 use denote.Bor.{Bor}
 use Rattle.mime_lookup.specs.Ancestry.{kinds_of}
@@ -6,34 +6,22 @@ use Rattle.mime_lookup.specs.CheckingOrder.{IsSniffed, are_one_type}
 use Rattle.mime_lookup.proofs.OrderLemmas.Answering.{first_text}
 use Rattle.mime_lookup.proofs.OrderLemmas.TypesBefore.{by_asked_types, by_one_before, by_sniffed, suffice_before}
 use Rattle.mime_lookup.proofs.LookUpLemmas.LookUps.{front_read, none_read}
-use Rattle.mime_lookup.proofs.ContentLemmas.Reads.{asks_nothing, asks_stopped, some_content}
+use Rattle.mime_lookup.proofs.ContentLemmas.Reads.{asks_nothing, asks_stopped, reads_nothing, reads_stopped, some_content}
 use Rattle.mime_lookup.proofs.checking.kind_of.Goals as goal
 
--- the types that the name gives suffice: the order gives this type
-pub returns-then-are_one_type-clause-chosen : goal.returns-then-are_one_type-clause-chosen
-returns-then-are_one_type-clause-chosen g c =
+-- the types that the name gives suffice: the order gives this type, whatever the content is
+pub returns-then-are_one_type-clause-answers : goal.returns-then-are_one_type-clause-answers
+returns-then-are_one_type-clause-answers g c =
     let named = c.in_ok-named.named.items in
     let question = c.args.question.now in
     let one : are_one_type (kinds_of named) ≡ true =
     rw c.deref.ensures.value at (sym c.are_one_type.ensures ∙ c.if-are_one_type.true) in
+    let chosen = λ (known : Option (Option (List ℕ))).
     by_one_before (g.A.Asked.plain c.args.database.now) question.name.now question.host c.keeps_limits.ensures
-    question.order _ (kinds_of named) _ c.in_ok-named.ensures.named one
-    (ap (λ (text : Bor (List ℕ)). text.now) c.index.ensures ∙ first_text named c.index.result.now one)
-
--- whatever the content is
-pub returns-then-are_one_type-clause-some : goal.returns-then-are_one_type-clause-some
-returns-then-are_one_type-clause-some g c =
-    let named = c.in_ok-named.named.items in
-    let question = c.args.question.now in
-    let one : are_one_type (kinds_of named) ≡ true =
-    rw c.deref.ensures.value at (sym c.are_one_type.ensures ∙ c.if-are_one_type.true) in
-    let some = some_content c.args.content.now in (
-      some.0,
-      some.1,
-      by_one_before (g.A.Asked.plain c.args.database.now) question.name.now question.host c.keeps_limits.ensures
-          question.order (Some some.0) (kinds_of named) _ c.in_ok-named.ensures.named one
-          (ap (λ (text : Bor (List ℕ)). text.now) c.index.ensures ∙ first_text named c.index.result.now one),
-    )
+    question.order known (kinds_of named) _ c.in_ok-named.ensures.named one
+    (ap (λ (text : Bor (List ℕ)). text.now) c.index.ensures ∙ first_text named c.index.result.now one) in
+    let some = some_content c.args.content.now in
+    record { chosen = chosen _; some = (some.0, some.1, chosen (Some some.0)) }
 
 -- and nothing is read
 pub returns-then-are_one_type-clause-read : goal.returns-then-are_one_type-clause-read
@@ -44,46 +32,46 @@ returns-then-are_one_type-clause-read g c =
     none_read (g.A.Asked.plain c.args.database.now) question.name.now question.order _ _ c.requires.none
     (suffice_before _ _ question.order _ true c.in_ok-named.ensures.named one)
 
-pub returns-then-are_one_type-clause-asks : goal.returns-then-are_one_type-clause-asks
-returns-then-are_one_type-clause-asks g c =
+pub returns-then-are_one_type-clause-uses : goal.returns-then-are_one_type-clause-uses
+returns-then-are_one_type-clause-uses g c =
     let one : are_one_type (kinds_of c.in_ok-named.named.items) ≡ true =
     rw c.deref.ensures.value at (sym c.are_one_type.ensures ∙ c.if-are_one_type.true) in
-    asks_nothing g.R.Content.health _ c.args.content.now _
-    (suffice_before (g.A.Asked.plain c.args.database.now) c.args.question.now.name.now c.args.question.now.order _ true
-    c.in_ok-named.ensures.named one)
+    record {
+      reader = reads_nothing g.R.Read.remaining g.R.Content.tally g.R.Content.health _ c.args.content.now c.args.read.now _ c.requires.none;
+      asks = asks_nothing g.R.Content.health _ c.args.content.now _
+          (suffice_before (g.A.Asked.plain c.args.database.now) c.args.question.now.name.now c.args.question.now.order _ true
+          c.in_ok-named.ensures.named one);
+    }
 
 -- the content can't be sniffed
-pub returns-in_err-sniffed-clause-asks : goal.returns-in_err-sniffed-clause-asks
-returns-in_err-sniffed-clause-asks g c =
+pub returns-in_err-sniffed-clause-uses : goal.returns-in_err-sniffed-clause-uses
+returns-in_err-sniffed-clause-uses g c =
     let several : are_one_type (kinds_of c.in_ok-named.named.items) ≡ false =
     rw c.deref.ensures.value at (sym c.are_one_type.ensures ∙ c.if-are_one_type.false) in
-    asks_stopped g.R.Content.health _ c.args.content.now c.sniff_content.new.content c.in_err-sniffed.field-0.0
-    c.from_residual-in_err-sniffed.result
-    (suffice_before (g.A.Asked.plain c.args.database.now) c.args.question.now.name.now c.args.question.now.order _ false
-    c.in_ok-named.ensures.named several)
-    c.from_residual-in_err-sniffed.ensures.1 c.in_err-sniffed.ensures.asks
+    record {
+      reader = reads_stopped g.R.Read.remaining g.R.Content.tally g.R.Content.health _ c.args.content.now c.sniff_content.new.content
+          c.sniff_content.new.read c.in_err-sniffed.field-0.0 c.from_residual-in_err-sniffed.result
+          c.from_residual-in_err-sniffed.ensures.1 c.in_err-sniffed.ensures.uses.reader;
+      asks = asks_stopped g.R.Content.health _ c.args.content.now c.sniff_content.new.content c.in_err-sniffed.field-0.0
+          c.from_residual-in_err-sniffed.result
+          (suffice_before (g.A.Asked.plain c.args.database.now) c.args.question.now.name.now c.args.question.now.order _ false
+          c.in_ok-named.ensures.named several)
+          c.from_residual-in_err-sniffed.ensures.1 c.in_err-sniffed.ensures.uses.asks;
+    }
 
 -- what was sniffed comes before the globs: the order gives it
-pub returns-then-precedes_globs-clause-chosen : goal.returns-then-precedes_globs-clause-chosen
-returns-then-precedes_globs-clause-chosen g c =
+pub returns-then-precedes_globs-clause-answers : goal.returns-then-precedes_globs-clause-answers
+returns-then-precedes_globs-clause-answers g c =
     let b = g.A.Asked.plain c.args.database.now in
     let question = c.args.question.now in
-    IfSome_then _ c.in_ok-sniffed.ensures.sniffed
-    (λ content (is : IsSniffed b content question.host c.in_ok-sniffed.sniffed).
+    let sniffed = c.in_ok-sniffed.ensures.answers in
+    let chosen = λ (content : Option (List ℕ)) (is : IsSniffed b content question.host c.in_ok-sniffed.sniffed).
     by_sniffed b question.name.now content question.host question.order c.in_ok-sniffed.sniffed.kind.now
-    (rw c.if-precedes_globs.true at (c.precedes_globs.ensures b content question.host is)))
-
--- and gives it to some content
-pub returns-then-precedes_globs-clause-some : goal.returns-then-precedes_globs-clause-some
-returns-then-precedes_globs-clause-some g c =
-    let b = g.A.Asked.plain c.args.database.now in
-    let question = c.args.question.now in
-    let some = c.in_ok-sniffed.ensures.some in (
-      some.0,
-      some.1,
-      by_sniffed b question.name.now some.0 question.host question.order c.in_ok-sniffed.sniffed.kind.now
-          (rw c.if-precedes_globs.true at (c.precedes_globs.ensures b some.0 question.host some.2)),
-    )
+    (rw c.if-precedes_globs.true at (c.precedes_globs.ensures b content question.host is)) in
+    record {
+      chosen = IfSome_then _ sniffed.sniffed chosen;
+      some = (sniffed.some.0, sniffed.some.1, chosen sniffed.some.0 sniffed.some.2);
+    }
 
 -- and the front is read
 pub returns-then-precedes_globs-clause-read : goal.returns-then-precedes_globs-clause-read
@@ -95,32 +83,21 @@ returns-then-precedes_globs-clause-read g c =
     c.in_ok-sniffed.ensures.read
 
 -- a type is chosen among those that are asked: the order gives it
-pub returns-clause-chosen : goal.returns-clause-chosen
-returns-clause-chosen g c =
+pub returns-clause-answers : goal.returns-clause-answers
+returns-clause-answers g c =
     let b = g.A.Asked.plain c.args.database.now in
     let question = c.args.question.now in
-    IfSome_then _ c.in_ok-sniffed.ensures.sniffed
-    (λ content (is : IsSniffed b content question.host c.in_ok-sniffed.sniffed).
+    let sniffed = c.in_ok-sniffed.ensures.answers in
+    let chosen = λ (content : Option (List ℕ)) (is : IsSniffed b content question.host c.in_ok-sniffed.sniffed).
     by_asked_types b question.name.now content question.host question.order (kinds_of c.in_ok-asked.asked.items)
     c.in_ok-sniffed.sniffed.kind.now c.in_ok-kind.kind.now
     (rw c.if-precedes_globs.false at (c.precedes_globs.ensures b content question.host is))
     (c.in_ok-asked.ensures.asked content is.magic) is.kind
-    (rw c.deref-2.ensures.value at c.in_ok-kind.ensures.chosen))
-
--- and gives it to some content
-pub returns-clause-some : goal.returns-clause-some
-returns-clause-some g c =
-    let b = g.A.Asked.plain c.args.database.now in
-    let question = c.args.question.now in
-    let some = c.in_ok-sniffed.ensures.some in (
-      some.0,
-      some.1,
-      by_asked_types b question.name.now some.0 question.host question.order (kinds_of c.in_ok-asked.asked.items)
-          c.in_ok-sniffed.sniffed.kind.now c.in_ok-kind.kind.now
-          (rw c.if-precedes_globs.false at (c.precedes_globs.ensures b some.0 question.host some.2))
-          (c.in_ok-asked.ensures.asked some.0 some.2.magic) some.2.kind
-          (rw c.deref-2.ensures.value at c.in_ok-kind.ensures.chosen),
-    )
+    (rw c.deref-2.ensures.value at c.in_ok-kind.ensures.chosen) in
+    record {
+      chosen = IfSome_then _ sniffed.sniffed chosen;
+      some = (sniffed.some.0, sniffed.some.1, chosen sniffed.some.0 sniffed.some.2);
+    }
 
 -- and the front is read
 pub returns-clause-read : goal.returns-clause-read

@@ -2,7 +2,7 @@ use Rattle.std.proofs.Common.{◌≡◌, ◌+◌, ◌-◌, ◌<◌, ◌∙◌, �
 use Rattle.std.proofs.lemmas.List.{get_or_default}
 use Rattle.mime_base.specs.Database.PlainPairs.{plain_pairs}
 use Rattle.mime_base.specs.Database.Subclass.{above, resolved}
-use Rattle.mime_lookup.specs.Places.{IsNext, place_in}
+use Rattle.mime_lookup.specs.Places.{IsNextPlace, place_in}
 use Rattle.mime_lookup.proofs.AncestryLemmas.Walks.{Walked, places_left-falls, walked-all, walked-first, walked-length, walked-more}
 use Rattle.mime_lookup.proofs.places.push_parents.Goals as goal
 
@@ -10,7 +10,7 @@ pub loop-place-init : goal.loop-place-init
 loop-place-init c =
     walked-first c.args.both.now.parents.pairs.now (resolved (plain_pairs c.args.both.now.aliases.pairs.now)) c.args.kind.now
     c.args.queue.now c.first_of-place.result
-    (subst (IsNext c.args.both.now.parents.pairs.now c.args.kind.now 0) (sym c.first_of-place.ensures)
+    (subst (IsNextPlace c.args.both.now.parents.pairs.now c.args.kind.now 0) (sym c.first_of-place.ensures)
     (c.requires.placed.parents.indexed.firsts c.args.kind.now))
 
 pub bounds-pairs-here : goal.bounds-pairs-here

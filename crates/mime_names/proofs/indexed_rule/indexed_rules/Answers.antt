@@ -5,7 +5,7 @@ use Rattle.mime_base.specs.Kept.{FitsRank}
 use Rattle.mime_base.specs.declared.database.rule.GlobRule.{GlobRule}
 use Rattle.mime_names.specs.Rules.{plain_named}
 use Rattle.mime_names.specs.declared.named_rule.NamedRule.{NamedRule}
-use Rattle.mime_names.proofs.RuleLemmas.{indexed-last, pattern-last, plain-made, plains-more, rules-more}
+use Rattle.mime_names.proofs.RuleLemmas.{indexed-last, plain-last, plains-more, rules-more}
 use Rattle.mime_names.proofs.indexed_rule.indexed_rules.Goals as goal
 
 -- some rule
@@ -38,15 +38,15 @@ loop-place-preserved c =
     let before = c.loop-place.invariant in
     let rule = c.indexed_rule-rule.result in
     let made = c.indexed_rule-rule.ensures in
-    let start : rule.start ≡ length old = omega (arith, made.start, c.len.ensures, c.loop-place.patterns.ok.0) in
-    let last = plain-made (old ++ more) rule lent made.weight made.kind made.cased (pattern-last old more rule start made.length) in
+    let start : rule.start ≡ length old = omega (arith, made.begins, c.len.ensures, c.loop-place.patterns.ok.0) in
+    let last = plain-last old lent rule _ made start in
     let fits = one_fits named place lent c.requires.limits c.loop-place-test.true is in
     rw (c.push_reserved.ensures.items, c.in_ok-extend_from_slice.ensures.items) record {
       long = omega (arith, before.long, length-append c.loop-place.rules.items (rule ∷ []));
       room = omega (arith, before.room, c.push_reserved.ensures.capacity);
       own =
           rules-more old more c.loop-place.rules.items rule before.own
-          (indexed-last old more rule (plain_named lent) start made.length made.class made.rank last fits);
+          (indexed-last old lent rule _ made start fits);
       rules =
           plains-more old more c.loop-place.rules.items rule (map plain_named (take place named)) (plain_named lent) before.own before.rules last
           ∙ sym (ap (map plain_named) (take_more named place lent c.loop-place-test.true ∙ ap (λ own. take place named ++ own ∷ []) (sym is))

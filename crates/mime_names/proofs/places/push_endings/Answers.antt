@@ -1,8 +1,8 @@
 use Rattle.std.proofs.Common.{◌≡◌, ◌⊎◌, ℕ, ◌+◌, ◌-◌, ◌<◌, ◌∷◌, length, get_or, drop, inl, inr, sym, ap, subst, ◌∙◌, arith}
 use Rattle.std.proofs.lemmas.List.{length-map}
 use Rattle.mime_base.specs.declared.meter.Meter.{Meter}
-use Rattle.mime_names.specs.Chains.{Gathers}
-use Rattle.mime_names.specs.Keys.{Ends, EndsFrom, node_key}
+use Rattle.mime_names.specs.Chains.{GathersPlaces}
+use Rattle.mime_names.specs.Keys.{IsEndKey, EndsFrom, node_key}
 use Rattle.mime_names.specs.Tree.{IsAt, next_of, spelled, symbol}
 use Rattle.mime_names.proofs.EndLemmas.{ends-later, ends-miss, ends-more, ends-start, ends-whole, gathers-both, gathers-weaker}
 use Rattle.mime_names.proofs.TreeLemmas.{is_at-end, spelled-more, symbol-below}
@@ -61,7 +61,7 @@ loop-left-preserved c =
           (λ key. ends-more tree text left c.next_of-at.result key after)
           (λ key ends. ends-later tree text left (left + 1) key (omega arith) ends)
           (λ key same. (left, c.next_of-at.result, omega arith, same, after))
-          (subst (λ n. Gathers (EndsFrom tree text n) keys c.args.found.now.items c.loop-left.found.items) here before.gathered)
+          (subst (λ n. GathersPlaces (EndsFrom tree text n) keys c.args.found.now.items c.loop-left.found.items) here before.gathered)
           c.in_ok-push_key-2.ensures.walks;
     }
 
@@ -78,9 +78,9 @@ returns-then-at-eq0-clause-gathers c =
     let leads : IsAt tree (drop (left + 1) text) c.loop-left.at = subst (λ n. IsAt tree (drop n text) c.loop-left.at) here before.leads in
     let none : next_of tree c.loop-left.at s ≡ 0 =
     ap (next_of tree c.loop-left.at) (sym c.symbol_of.ensures.symbol) ∙ sym c.next_of-at.ensures.next ∙ c.if-at-eq0.true in
-    gathers-weaker c.args.table.now.keys.items (EndsFrom tree text (left + 1)) (Ends tree text) _ _ (ends-miss tree text left c.loop-left.at s is leads none)
+    gathers-weaker c.args.table.now.keys.items (EndsFrom tree text (left + 1)) (IsEndKey tree text) _ _ (ends-miss tree text left c.loop-left.at s is leads none)
     (λ key ends. inl (ends-later tree text 0 (left + 1) key (omega arith) ends))
-    (subst (λ n. Gathers (EndsFrom tree text n) c.args.table.now.keys.items c.args.found.now.items c.loop-left.found.items) here before.gathered)
+    (subst (λ n. GathersPlaces (EndsFrom tree text n) c.args.table.now.keys.items c.args.found.now.items c.loop-left.found.items) here before.gathered)
 
 pub returns-in_ok-push_key-3-clause-gathers : goal.returns-in_ok-push_key-3-clause-gathers
 returns-in_ok-push_key-3-clause-gathers c =
@@ -93,11 +93,11 @@ returns-in_ok-push_key-3-clause-gathers c =
     let all : c.loop-left.left ≡ 0 = omega (arith, c.loop-left-test.false) in
     let leads : IsAt tree text at = subst (λ n. IsAt tree (drop n text) at) all before.leads in
     let next : next_of tree at 0 ≡ whole = sym c.next_of-whole.ensures.next in
-    gathers-both keys (EndsFrom tree text 0) (λ key. key ≡ node_key whole) (Ends tree text) _ _ _
+    gathers-both keys (EndsFrom tree text 0) (λ key. key ≡ node_key whole) (IsEndKey tree text) _ _ _
     (λ key ends. whole_first (key ≡ node_key whole) (0 < whole) (EndsFrom tree text 0 key) (ends-whole tree text at whole key leads next ends))
     (λ key ends. inl ends)
     (λ key same. inr (whole, same, (at, leads, omega arith, next, omega (arith, c.if-whole-gt0.true))))
-    (subst (λ n. Gathers (EndsFrom tree text n) keys c.args.found.now.items c.loop-left.found.items) all before.gathered)
+    (subst (λ n. GathersPlaces (EndsFrom tree text n) keys c.args.found.now.items c.loop-left.found.items) all before.gathered)
     c.in_ok-push_key-3.ensures.walks
 
 pub returns-else-whole-gt0-clause-gathers : goal.returns-else-whole-gt0-clause-gathers
@@ -111,8 +111,8 @@ returns-else-whole-gt0-clause-gathers c =
     let all : c.loop-left.left ≡ 0 = omega (arith, c.loop-left-test.false) in
     let leads : IsAt tree text at = subst (λ n. IsAt tree (drop n text) at) all before.leads in
     let next : next_of tree at 0 ≡ whole = sym c.next_of-whole.ensures.next in
-    gathers-weaker keys (EndsFrom tree text 0) (Ends tree text) _ _
+    gathers-weaker keys (EndsFrom tree text 0) (IsEndKey tree text) _ _
     (λ key ends. whole_none whole (key ≡ node_key whole) (EndsFrom tree text 0 key) (omega (arith, c.if-whole-gt0.false))
     (ends-whole tree text at whole key leads next ends))
     (λ key ends. inl ends)
-    (subst (λ n. Gathers (EndsFrom tree text n) keys c.args.found.now.items c.loop-left.found.items) all before.gathered)
+    (subst (λ n. GathersPlaces (EndsFrom tree text n) keys c.args.found.now.items c.loop-left.found.items) all before.gathered)

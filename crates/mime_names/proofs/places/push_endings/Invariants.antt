@@ -1,5 +1,5 @@
 use Rattle.std.proofs.Common.{◌+◌, ◌*◌, ◌≤◌, ◌<◌, length, drop}
-use Rattle.mime_names.specs.Chains.{Gathers}
+use Rattle.mime_names.specs.Chains.{GathersPlaces}
 use Rattle.mime_names.specs.Keys.{EndsFrom}
 use Rattle.mime_names.specs.Tree.{IsAt, spelled}
 use Rattle.mime_names.proofs.places.push_endings.Given as goal
@@ -10,7 +10,7 @@ invariant-loop-left l = record {
   within : l.left ≤ length l.name;
   node : l.at < length l.table.tree.starts.items;
   leads : IsAt l.table.tree (drop l.left (spelled l.name)) l.at;
-  gathered : Gathers (EndsFrom l.table.tree (spelled l.name) l.left) l.table.keys.items l.fn.found.items l.found.items;
+  gathered : GathersPlaces (EndsFrom l.table.tree (spelled l.name) l.left) l.table.keys.items l.fn.found.items l.found.items;
 }
 
 abbrev pub decreases-loop-left : goal.decreases-loop-left

@@ -1,5 +1,5 @@
 use Rattle.std.proofs.Common.{◌+◌, ◌-◌, ◌≡◌, sym, subst, arith, drop}
-use Rattle.mime_names.specs.Tree.{Adds, spelled}
+use Rattle.mime_names.specs.Tree.{AddsText, spelled}
 use Rattle.mime_names.proofs.TreeLemmas.{adds-more, adds-none, grows-refl}
 use Rattle.mime_names.proofs.tree.known_ending.Goals as goal
 
@@ -16,7 +16,7 @@ loop-left-preserved c =
       known =
           adds-more tree tree tree c.args.text.now left c.loop-left.at _ c.next_of-next.result
           (omega (arith, here, c.loop-left.invariant.within)) c.symbol_of.ensures.below c.symbol_of.ensures.symbol
-          (subst (λ n. Adds tree (drop n (spelled c.args.text.now)) tree c.loop-left.at) here c.loop-left.invariant.known)
+          (subst (λ n. AddsText tree (drop n (spelled c.args.text.now)) tree c.loop-left.at) here c.loop-left.invariant.known)
           record {
             grows = grows-refl tree;
             is_tree = c.requires;

@@ -1,11 +1,11 @@
 use Rattle.std.proofs.Common.{◌≤◌, length, drop}
-use Rattle.mime_names.specs.Tree.{Adds, spelled}
+use Rattle.mime_names.specs.Tree.{AddsText, spelled}
 use Rattle.mime_names.proofs.tree.known_ending.Given as goal
 
 abbrev pub invariant-loop-left : goal.invariant-loop-left
 invariant-loop-left l = record {
   within : l.left ≤ length l.text;
-  known : Adds l.tree (drop l.left (spelled l.text)) l.tree l.at;
+  known : AddsText l.tree (drop l.left (spelled l.text)) l.tree l.at;
 }
 
 abbrev pub decreases-loop-left : goal.decreases-loop-left

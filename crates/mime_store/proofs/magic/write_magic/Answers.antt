@@ -1,6 +1,6 @@
 use Rattle.std.proofs.Common.{arith, map, length, ap, refl, lit<}
 use Rattle.std.proofs.lemmas.List.{length-map}
-use Rattle.mime_base.specs.Format.Magic.{IsSection}
+use Rattle.mime_base.specs.Format.Magic.{IsSectionRecord}
 use Rattle.mime_base.specs.Magic.{plain_section, plain_sections}
 use Rattle.mime_store.specs.Lines.{section_parts_room}
 use Rattle.mime_store.proofs.ListLemmas.Gather.{gather_end, rows_room}
@@ -20,7 +20,7 @@ append_numbers-requires-clause-room c =
       arith,
       c.requires.room,
       grew_length _ _ _ c.in_ok-records.ensures.grew,
-      rows_room IsSection 4 section_parts_room _ _ _ c.in_ok-records.ensures.gathered,
+      rows_room IsSectionRecord 4 section_parts_room _ _ _ c.in_ok-records.ensures.gathered,
       ap length c.as_slice.ensures,
     )
 
@@ -42,7 +42,7 @@ append_numbers-requires-2-clause-room c =
       c.requires.room,
       grew_length _ _ _ c.in_ok-records.ensures.grew,
       grew_length _ _ _ c.in_ok-first.ensures.grew,
-      rows_room IsSection 4 section_parts_room _ _ _ c.in_ok-records.ensures.gathered,
+      rows_room IsSectionRecord 4 section_parts_room _ _ _ c.in_ok-records.ensures.gathered,
       ap length c.as_slice.ensures,
     )
 
@@ -54,7 +54,7 @@ pub returns-clause-grew : goal.returns-clause-grew
 returns-clause-grew c =
     grew_to _ _ _ _ (omega (
       arith,
-      rows_room IsSection 4 section_parts_room _ _ _ c.in_ok-records.ensures.gathered,
+      rows_room IsSectionRecord 4 section_parts_room _ _ _ c.in_ok-records.ensures.gathered,
       ap length c.as_slice.ensures,
     ))
     (grew_on _ _ _ _ _ (grew_on _ _ _ _ _ c.in_ok-records.ensures.grew c.in_ok-first.ensures.grew) c.in_ok-at.ensures.grew)
@@ -62,6 +62,6 @@ returns-clause-grew c =
 pub returns-clause-stands : goal.returns-clause-stands
 returns-clause-stands c =
     magic_stands _ _ c.args.sections.now _ _ _ _ _
-    (gather_end IsSection 4 _ _ _ _ _ (map plain_section c.args.sections.now)
+    (gather_end IsSectionRecord 4 _ _ _ _ _ (map plain_section c.args.sections.now)
     c.in_ok-first.ensures.grew c.in_ok-records.ensures.gathered (rw (← c.as_slice.ensures) c.in_ok-first.ensures.stand))
     c.in_ok-at.ensures.grew refl c.extent.ensures c.in_ok-at.ensures.stand

@@ -1,6 +1,6 @@
 use Rattle.std.proofs.Common.{refl}
 use Rattle.std.proofs.lemmas.Result.{err_from_is_err_and}
-use Rattle.mime_tool.specs.LineSteps.{tail_of}
+use Rattle.mime_tool.specs.LineSteps.{tail_of_cost}
 use Rattle.mime_tool.specs.Output.{answer_of}
 use Rattle.mime_tool.specs.Run.{printed}
 use Rattle.mime_tool.proofs.DeskLemmas.Desks.{does_nothing}
@@ -12,6 +12,6 @@ returns-in_err-tail g c =
     rw (e.1, e.2) (record {
       same_files = refl;
       same_setting = refl;
-      sinks = does_nothing (Unit {0}) (printed (answer_of c.args.output c.args.name.now c.args.kind.now (tail_of c.args.cost)))
+      sinks = does_nothing (Unit {0}) (printed (answer_of c.args.output c.args.name.now c.args.kind.now (tail_of_cost c.args.cost)))
           (g.D.Desk.state c.args.desk.now).sinks;
     })

@@ -7,6 +7,7 @@ use Rattle.mime_view.specs.Magic.{AnswersLines, IsLineFault, ReadsLines, line_pr
 use Rattle.mime_view.proofs.CostLemmas.Costs.{spends_then}
 use Rattle.mime_view.proofs.MagicLemmas.LineFaults.{fault_below, own_fault}
 use Rattle.mime_view.proofs.MagicLemmas.LineParts.{last_level, line_alone, line_differs, line_parent, line_refused}
+use Rattle.mime_view.proofs.MagicLemmas.LinesAsked.{asks_next, asks_parent}
 use Rattle.mime_view.proofs.MagicLemmas.LinesLeft.{ended, next}
 use Rattle.mime_view.proofs.MagicLemmas.WalkedLines.{fails_alone, holds_alone, walks_parent}
 use Rattle.mime_view.proofs.magic.+sniffing.Goals as goal
@@ -69,6 +70,8 @@ some_line_holds-loop-i-preserved t c = record {
       (λ (k : ℕ). FailsAt (63 - c.args.level) c.args.query.now.counted.now c.args.query.now.content c.args.query.now.host
       (c.from-start.result + 32 * k)) c.loop-i.i c.loop-i.invariant.fails
       (rw c.if-branch.false at c.in_ok-line_holds.ensures.walked);
+  asked = asks_next c.args.query.now.counted.now c.args.first c.args.count c.args.level _ c.loop-i.i _ _ _ c.from-start.ensures
+      (omega (arith, c.loop-i-test.true)) c.loop-i.invariant.asked c.line_holds.ensures.asked;
   cost = spends_then (line_price c.args.query.now) 0 0 0 0 c.args.spending.now c.loop-i.spending c.line_holds.new.spending
       c.loop-i.invariant.cost c.in_ok-line_holds.ensures.ends.cost;
 }
@@ -147,3 +150,8 @@ whole_line_holds-returns-then-count-eq0-clause-walked t c =
 pub line_holds-returns-then-differs_at_once-clause-walked : goal.line_holds-returns-then-differs_at_once-clause-walked
 line_holds-returns-then-differs_at_once-clause-walked t c =
     fails_alone (63 - c.args.level) (c.differs_at_once.ensures.differs c.if-differs_at_once.true)
+
+pub whole_line_holds-returns-clause-asked : goal.whole_line_holds-returns-clause-asked
+whole_line_holds-returns-clause-asked t c =
+    asks_parent c.args.query.now.counted.now c.args.at _ _ c.args.level _ _ _ (omega arith) c.in_ok-equals.ensures.children.count
+    c.in_ok-equals.ensures.children.first c.see_line.ensures.asked c.some_child_holds.ensures.asked

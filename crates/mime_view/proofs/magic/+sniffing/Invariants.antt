@@ -1,6 +1,7 @@
 use Rattle.std.proofs.Common.{◌≡◌, ◌+◌, ◌-◌, ◌*◌}
 use Rattle.mime_base.specs.Format.Magic.{width}
 use Rattle.mime_base.specs.Magic.{Forest}
+use Rattle.mime_view.specs.Asked.{AsksLines, IsLineAmong}
 use Rattle.mime_view.specs.Magic.{ReadsLines, line_price}
 use Rattle.mime_view.specs.Spending.{Spends}
 use Rattle.mime_view.specs.Walked.{EachOf, FailsAt}
@@ -27,5 +28,6 @@ invariant-some_line_holds-loop-i l = record {
   left : (lines : Forest) → width lines ≡ l.count → ReadsLines l.query.counted.now l.first lines
       → Left l.query (64 - l.level) l.start l.count lines l.initial.spending l.i l.spending;
   fails : EachOf (FailsAt (63 - l.level) l.query.counted.now l.query.content l.query.host) l.start 32 l.i;
+  asked : AsksLines l.query.counted.now (IsLineAmong l.query.counted.now l.first l.count l.level) l.initial.spending.budget l.spending.budget;
   cost : Spends (line_price l.query) 0 0 l.initial.spending l.spending;
 }

@@ -1,5 +1,6 @@
 use Rattle.std.proofs.Common.{◌≡◌, ℕ, ◌+◌, ◌*◌, List, length, get_or, refl, sym, arith, ap, ◌∙◌}
 use Rattle.mime_view.proofs.MagicLemmas.LineValues.{lies_where, line_counted, line_equals, line_stated}
+use Rattle.mime_view.proofs.MagicLemmas.LinesAsked.{asks_one}
 use Rattle.mime_view.proofs.magic.see_line.Goals as goal
 
 pub returns-clause-line : goal.returns-clause-line
@@ -17,7 +18,8 @@ returns-clause-line c = λ own reads.
       counted =
           let here = line_counted c.args.query.now.counted.now c.args.at own c.cards_within.result c.args.query.now.host
           c.bytes.result.now c.cards_within.ensures.numbers reads c.args.spending.now.meter.bytes
-          c.value_in_range.new.meter.bytes (λ lie. omega (arith, c.value_in_range.ensures.bytes lie)) in
+          c.value_in_range.new.meter.bytes
+          (λ lie. (let counted = rw lie at c.value_in_range.ensures.counts.bytes in omega (arith, counted))) in
           rw (sym c.bytes.ensures.same) (omega (arith, here));
     }
 
@@ -49,3 +51,15 @@ returns-clause-ends c =
         fair = omega (arith, c.in_ok-take_record.ensures.taken);
       };
     }
+
+pub returns-in_err-equals-clause-asked : goal.returns-in_err-equals-clause-asked
+returns-in_err-equals-clause-asked c =
+    let size = ap (λ (ns : List ℕ). get_or ns 3 0) c.cards_within.ensures.numbers in
+    asks_one c.args.query.now.counted.now c.args.at c.args.spending.now.budget _ (omega (arith, c.in_ok-take_record.ensures.taken))
+    (omega (arith, size, c.from.ensures, c.in_ok-take_value_bytes.ensures.taken))
+
+pub returns-clause-asked : goal.returns-clause-asked
+returns-clause-asked c =
+    let size = ap (λ (ns : List ℕ). get_or ns 3 0) c.cards_within.ensures.numbers in
+    asks_one c.args.query.now.counted.now c.args.at c.args.spending.now.budget _ (omega (arith, c.in_ok-take_record.ensures.taken))
+    (omega (arith, size, c.from.ensures, c.in_ok-take_value_bytes.ensures.taken))

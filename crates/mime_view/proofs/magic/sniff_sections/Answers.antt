@@ -4,6 +4,7 @@ use Rattle.mime_base.specs.Cache.Bytes.{field}
 use Rattle.mime_view.specs.Walked.{WalksSection}
 use Rattle.mime_view.specs.Magic.{IsSectionFault, magic_price}
 use Rattle.mime_view.proofs.CostLemmas.Costs.{spends_then}
+use Rattle.mime_view.proofs.MagicLemmas.LinesAsked.{asks_section}
 use Rattle.mime_view.proofs.MagicLemmas.SectionsLeft.{ended, next}
 use Rattle.mime_view.proofs.magic.sniff_sections.Goals as goal
 
@@ -26,6 +27,15 @@ loop-i-preserved c = record {
   fails = below_more
       (λ (k : ℕ). WalksSection c.args.query.now.counted.now c.args.query.now.content c.args.query.now.host false (c.from-first.result + 16 * k))
       c.loop-i.i c.loop-i.invariant.fails (rw c.in-None.is at c.in_ok-found.ensures.walked);
+  asked =
+      let count : get_or c.in_ok-count.field-0 0 0 ≡ field c.args.query.now.counted.now c.args.at 0 =
+      ap (λ (ns : List ℕ). get_or ns 0 0) c.in_ok-count.ensures.numbers.1
+      ∙ ap (λ (n : ℕ). field c.args.query.now.counted.now n 0) c.from.ensures in
+      let first : get_or c.in_ok-count.field-0 2 0 ≡ field c.args.query.now.counted.now c.args.at 2 =
+      ap (λ (ns : List ℕ). get_or ns 2 0) c.in_ok-count.ensures.numbers.1
+      ∙ ap (λ (n : ℕ). field c.args.query.now.counted.now n 2) c.from.ensures in
+      asks_section c.args.query.now.counted.now c.args.at _ c.loop-i.i _ _ _ (c.from-first.ensures ∙ first)
+      (omega (arith, c.loop-i-test.true, c.from-count.ensures, count)) c.loop-i.invariant.asked c.take_section.ensures.asked;
   cost = spends_then (magic_price (length c.args.query.now.content)) 1 0 0 0 c.args.spending.now c.loop-i.spending c.take_section.new.spending
       c.loop-i.invariant.cost c.in_ok-found.ensures.ends.cost;
 }

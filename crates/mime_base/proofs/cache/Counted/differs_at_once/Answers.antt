@@ -1,4 +1,4 @@
-use Rattle.std.proofs.Common.{◌≡◌, ◌+◌, ◌*◌, ℕ, List, [], length, Some, sym, ap, ap₂, ◌∙◌, arith}
+use Rattle.std.proofs.Common.{◌≡◌, ◌+◌, ◌*◌, ℕ, List, [], length, Some, sym, ap, ap₂, ◌∙◌, arith, rules}
 use Rattle.mime_base.specs.Cache.Bytes.{optional_mask, value_at}
 use Rattle.mime_base.specs.Magic.Holds.{equals_from}
 use Rattle.mime_base.specs.Magic.Ranges.{compared_from}
@@ -24,8 +24,8 @@ returns-clause-differs c = λ yes host.
     ∙ ap (λ (w : ℕ). equals_from (line_from 0 0 w c.in-Ok.bytes.now (Some [])) host c.args.content.now c.args.start c.args.range) one
     ∙ c.windows_differing-windows.ensures.equal (omega arith) host)
 
-pub returns-clause-bytes : goal.returns-clause-bytes
-returns-clause-bytes c = λ yes host.
+pub returns-clause-counts : goal.returns-clause-counts
+returns-clause-counts c = λ yes host.
     let value = value_at c.args.self.now c.args.value.at c.args.value.size in
     let mask = optional_mask c.args.self.now c.args.value.mask_at c.args.value.size in
     let one : c.args.value.word ≡ 1 = omega arith in
@@ -37,7 +37,11 @@ returns-clause-bytes c = λ yes host.
     ∙ ap (λ (w : ℕ). compared_from (line_from 0 0 w c.in-Ok.bytes.now (Some [])) host c.args.content.now c.args.start c.args.range) one
     ∙ c.windows_differing-windows.ensures.counted (omega arith) host in
     let added = ap (λ (m : Meter). m.bytes) c.add_bytes.ensures.added in
-    added ∙ ap (raised c.args.meter.now.bytes) (sym counted)
+    record {
+      nodes = search rules;
+      bytes = added ∙ ap (raised c.args.meter.now.bytes) (sym counted);
+      rises = search rules;
+    }
 
 pub returns-clause-limit : goal.returns-clause-limit
 returns-clause-limit c =

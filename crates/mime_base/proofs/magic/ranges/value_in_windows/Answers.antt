@@ -13,14 +13,18 @@ returns-then-at-end-clause-equal c =
     sym (c.loop-start.invariant.equal ∙ c.next_window-at.ensures.equal
     ∙ rw none (equals_from-none own c.args.host c.args.content.now c.next_window-at.result))
 
-pub returns-then-at-end-clause-bytes : goal.returns-then-at-end-clause-bytes
-returns-then-at-end-clause-bytes c =
+pub returns-then-at-end-clause-counts : goal.returns-then-at-end-clause-counts
+returns-then-at-end-clause-counts c =
     let own = line_from 0 0 c.args.word c.args.value.now (Some c.args.mask.now) in
     let at : ℕ = c.next_window-at.result in
     let none : c.args.end - at ≡ 0 = omega arith in
     let nothing : compared_from own c.args.host c.args.content.now at (c.args.end - at) ≡ 0 =
     ap (compared_from own c.args.host c.args.content.now at) none ∙ compared_from-none own c.args.host c.args.content.now at in
-    omega (arith, nothing, c.next_window-at.ensures.bytes, c.loop-start.invariant.bytes)
+    record {
+      nodes = search rules;
+      bytes = omega (arith, nothing, c.next_window-at.ensures.bytes, c.loop-start.invariant.bytes);
+      rises = omega (arith, nothing, c.next_window-at.ensures.bytes, c.loop-start.invariant.bytes);
+    }
 
 pub returns-then-value_is-clause-equal : goal.returns-then-value_is-clause-equal
 returns-then-value_is-clause-equal c =
@@ -35,8 +39,8 @@ returns-then-value_is-clause-equal c =
     sym (c.loop-start.invariant.equal ∙ c.next_window-at.ensures.equal
     ∙ equals_from-found own c.args.host c.args.content.now at (left - 1) left (omega arith) (omega arith) equal)
 
-pub returns-then-value_is-clause-bytes : goal.returns-then-value_is-clause-bytes
-returns-then-value_is-clause-bytes c =
+pub returns-then-value_is-clause-counts : goal.returns-then-value_is-clause-counts
+returns-then-value_is-clause-counts c =
     let own = line_from 0 0 c.args.word c.args.value.now (Some c.args.mask.now) in
     let at : ℕ = c.next_window-at.result in
     let left : ℕ = c.args.end - at in
@@ -48,7 +52,11 @@ returns-then-value_is-clause-bytes c =
     let cost = ap (λ (n : ℕ). min (equal_bytes c.args.value.now c.args.mask.now c.args.word c.args.host
     (take n (drop at c.args.content.now)) + 1) (length c.args.value.now)) size in
     let found = compared_from-found own c.args.host c.args.content.now at (left - 1) left (omega arith) (omega arith) equal in
-    omega (arith, cost, found, c.value_is.ensures.bytes, c.next_window-at.ensures.bytes, c.loop-start.invariant.bytes)
+    record {
+      nodes = search rules;
+      bytes = omega (arith, cost, found, c.value_is.ensures.counts.bytes, c.next_window-at.ensures.bytes, c.loop-start.invariant.bytes);
+      rises = omega (arith, cost, found, c.value_is.ensures.counts.bytes, c.next_window-at.ensures.bytes, c.loop-start.invariant.bytes);
+    }
 
 pub loop-start-preserved : goal.loop-start-preserved
 loop-start-preserved c =
@@ -65,7 +73,8 @@ loop-start-preserved c =
     let passed = compared_from-passed own c.args.host c.args.content.now at (c.args.end - (at + 1)) left
     (omega arith) (omega arith) differs in
     record {
-      order = omega arith;
+      low = omega arith;
+      high = omega arith;
       equal =
           c.loop-start.invariant.equal
           ∙ c.next_window-at.ensures.equal
@@ -76,7 +85,7 @@ loop-start-preserved c =
         arith,
         cost,
         passed,
-        c.value_is.ensures.bytes,
+        c.value_is.ensures.counts.bytes,
         c.next_window-at.ensures.bytes,
         c.loop-start.invariant.bytes,
       );
@@ -88,11 +97,15 @@ returns-clause-equal c =
     let none : c.args.end - c.loop-start.start ≡ 0 = omega arith in
     sym (c.loop-start.invariant.equal ∙ rw none (equals_from-none own c.args.host c.args.content.now c.loop-start.start))
 
-pub returns-clause-bytes : goal.returns-clause-bytes
-returns-clause-bytes c =
+pub returns-clause-counts : goal.returns-clause-counts
+returns-clause-counts c =
     let own = line_from 0 0 c.args.word c.args.value.now (Some c.args.mask.now) in
     let start : ℕ = c.loop-start.start in
     let none : c.args.end - start ≡ 0 = omega arith in
     let nothing : compared_from own c.args.host c.args.content.now start (c.args.end - start) ≡ 0 =
     ap (compared_from own c.args.host c.args.content.now start) none ∙ compared_from-none own c.args.host c.args.content.now start in
-    omega (arith, nothing, c.loop-start.invariant.bytes)
+    record {
+      nodes = search rules;
+      bytes = omega (arith, nothing, c.loop-start.invariant.bytes);
+      rises = omega (arith, nothing, c.loop-start.invariant.bytes);
+    }

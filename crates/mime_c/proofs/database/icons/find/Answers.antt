@@ -7,7 +7,7 @@ returns-in-Err c =
     let is = c.in-Err.ensures in
     record {
       outcome = Err c.in-Err.stopped;
-      promised = subst (λ (cache : List ℕ). IsIcons cache c.args.kind.now (Err c.in-Err.stopped)) c.cache.ensures.cache
+      promised = subst (λ (cache : List ℕ). IsIcons cache c.args.kind.now (Err c.in-Err.stopped)) c.indexed.ensures
           (record {
             answer = is.answer;
             lists = is.lists;

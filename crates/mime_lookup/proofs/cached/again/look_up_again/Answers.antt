@@ -4,4 +4,4 @@ use Rattle.mime_lookup.proofs.cached.again.look_up_again.Goals as goal
 
 pub returns-in-Err-clause-stops : goal.returns-in-Err-clause-stops
 returns-in-Err-clause-stops g c =
-    stops_cause _ _ c.in-Err.cause (omega arith) c.in-Err.ensures.opens.refused c.in-Err.ensures.fault c.in-Err.ensures.stops
+    stops_cause _ _ c.in-Err.cause (omega arith) c.in-Err.ensures.faults c.in-Err.ensures.stops

@@ -14,9 +14,9 @@ pub loop-kind-init : goal.loop-kind-init
 loop-kind-init c =
     rw c.new-marks.ensures
     (record {
-      settled = λ b spells kind is is_a. cc (marked-none c.args.cache.now (field c.args.cache.now 0 2) kind, is);
+      settled = λ b spells kind is is_a. cc (marked-none c.args.indexed.now (field c.args.indexed.now 0 2) kind, is);
       rest = λ b spells answer first. first;
-      owed = λ b spells. omega (arith, unmarked_most b.parents (marked_by c.args.cache.now []));
+      owed = λ b spells. omega (arith, unmarked_most b.parents (marked_by c.args.indexed.now []));
       cost = spends_none (lookup_price search_cost 0) c.args.spending.now;
     })
 

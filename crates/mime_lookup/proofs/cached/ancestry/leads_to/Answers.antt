@@ -8,7 +8,7 @@ use Rattle.mime_lookup.proofs.cached.ancestry.leads_to.Goals as goal
 pub returns-then-is_by_itself-clause-answer : goal.returns-then-is_by_itself-clause-answer
 returns-then-is_by_itself-clause-answer c = λ b spells. record {
   answer = λ none. (
-    (λ _. searched_found (pairs_of b) c.args.base.now c.args.kind.now (marked_by c.args.cache.now c.loop-here.marks)
+    (λ _. searched_found (pairs_of b) c.args.base.now c.args.kind.now (marked_by c.args.indexed.now c.loop-here.marks)
         c.in-Some.here.now c.pop_front.new.self
         (rw c.in-Some.ensures.taken at (c.loop-here.invariant.searched b spells none))
         (sym c.is_by_itself.ensures.answer ∙ c.if-is_by_itself.true)),
@@ -20,8 +20,8 @@ returns-then-is_by_itself-clause-answer c = λ b spells. record {
 pub loop-here-preserved : goal.loop-here-preserved
 loop-here-preserved c = record {
   searched = λ b spells none.
-      searched_more (pairs_of b) c.args.base.now c.args.kind.now (marked_by c.args.cache.now c.loop-here.marks)
-      (marked_by c.args.cache.now c.expand.new.marks) c.in-Some.here.now
+      searched_more (pairs_of b) c.args.base.now c.args.kind.now (marked_by c.args.indexed.now c.loop-here.marks)
+      (marked_by c.args.indexed.now c.expand.new.marks) c.in-Some.here.now
       c.pop_front.new.self c.expand.new.queue
       (rw c.in-Some.ensures.taken at (c.loop-here.invariant.searched b spells none))
       (sym c.is_by_itself.ensures.answer ∙ c.if-is_by_itself.false)
@@ -36,7 +36,7 @@ loop-here-preserved c = record {
 
 pub returns-clause-answer : goal.returns-clause-answer
 returns-clause-answer c = λ b spells.
-    let marked = marked_by c.args.cache.now c.loop-here.marks in
+    let marked = marked_by c.args.indexed.now c.loop-here.marks in
     let left = c.in_default.ensures.taken.0 in
     record {
       answer = λ none.

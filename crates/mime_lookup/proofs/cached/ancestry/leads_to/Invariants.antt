@@ -9,11 +9,11 @@ use Rattle.mime_lookup.proofs.cached.ancestry.leads_to.Given as goal
 
 abbrev pub invariant-loop-here : goal.invariant-loop-here
 invariant-loop-here l = record {
-  searched : (b : PlainDatabase) → SpellsPairs l.cache b → NoneLeadsTo (marked_by l.cache l.fn.marks) (pairs_of b) l.base →
-      Searched (pairs_of b) l.base l.kind (marked_by l.cache l.marks) l.queue;
-  owed : (b : PlainDatabase) → SpellsPairs l.cache b →
-      unmarked b.parents (marked_by l.cache l.marks) + l.fn.spending.budget.records
-      ≤ unmarked b.parents (marked_by l.cache l.fn.marks) + l.spending.budget.records;
+  searched : (b : PlainDatabase) → SpellsPairs l.indexed b → NoneLeadsTo (marked_by l.indexed l.fn.marks) (pairs_of b) l.base →
+      Searched (pairs_of b) l.base l.kind (marked_by l.indexed l.marks) l.queue;
+  owed : (b : PlainDatabase) → SpellsPairs l.indexed b →
+      unmarked b.parents (marked_by l.indexed l.marks) + l.fn.spending.budget.records
+      ≤ unmarked b.parents (marked_by l.indexed l.fn.marks) + l.spending.budget.records;
   paid : CostsOwing (29 * length l.queue) search_cost 0 29 l.fn.spending l.spending;
 }
 

@@ -8,7 +8,7 @@ use Rattle.mime_lookup.proofs.cached.ancestry.push_unaliased.Given as goal
 
 abbrev pub invariant-loop-kind : goal.invariant-loop-kind
 invariant-loop-kind l = record {
-  queue : (b : PlainDatabase) → SpellsPairs l.cache b →
+  queue : (b : PlainDatabase) → SpellsPairs l.indexed b →
       l.queue ≡ l.fn.queue ++ map (resolved b.aliases) (kinds_of (take l.kind-index l.kinds));
   longer : length l.queue ≡ length l.fn.queue + l.kind-index;
   budget : l.spending.budget ≡ l.fn.spending.budget;

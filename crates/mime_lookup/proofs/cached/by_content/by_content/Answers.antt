@@ -5,7 +5,7 @@ use Rattle.mime_lookup.specs.Cached.{cause_of, plain_finding}
 use Rattle.mime_lookup.specs.Costs.{record_cost}
 use Rattle.mime_lookup.specs.Halves.{bytes_of}
 use Rattle.mime_lookup.specs.declared.cached.by_name.Candidates.TheVariants.{Kept}
-use Rattle.mime_lookup.proofs.OrderLemmas.ByContents.{suffices_choice, suffices_content, used_for}
+use Rattle.mime_lookup.proofs.OrderLemmas.ByContents.{suffices_choice, suffices_content, used_unread}
 use Rattle.mime_lookup.proofs.CostLemmas.Costs.{costs_sniffed, costs_wider}
 use Rattle.mime_lookup.proofs.OrderLemmas.GlobsFirst.{with_content}
 use Rattle.mime_lookup.proofs.CostLemmas.Near.{none_kept}
@@ -37,7 +37,7 @@ returns-in_err-kind-in-Kept-clause-stops c =
     let choose = rw c.as_slice.ensures at c.in_err-kind-in-Kept.ensures.stops in
     rw c.in-Kept.is (passed_on _ c.in_err-kind-in-Kept.field-0.0 c.from_residual-in_err-kind-in-Kept.result
     c.from_residual-in_err-kind-in-Kept.ensures.1 (stops_then (cause_of c.in_err-kind-in-Kept.field-0.0) choose
-    (used_for c.args.indexed.now c.choose.new.spending.budget (λ none. tt)) (λ b enough.
+    (used_unread c.args.indexed.now c.args.spending.now.budget _ c.choose.new.spending.budget tt) (λ b enough.
     let content = suffices_content c.args.indexed.now c.args.question.now.name.now (bytes_of c.args.front ≡ None) b (Kept c.in-Kept.kinds) enough.1 enough.0 in (
       suffices_choice c.args.indexed.now c.args.question.now.name.now (bytes_of c.args.front ≡ None) b c.in-Kept.kinds enough.1.1 enough.1.0 enough.0,
       omega (arith, enough.2.records, c.in_ok-finding.ensures.takes b content),
@@ -46,7 +46,7 @@ returns-in_err-kind-in-Kept-clause-stops c =
 pub returns-in_err-kind-in-Kept-clause-cost : goal.returns-in_err-kind-in-Kept-clause-cost
 returns-in_err-kind-in-Kept-clause-cost c =
     rw c.in-Kept.is (costs_sniffed (length c.args.question.now.name.now) _ c.in_ok-finding.ensures.cost
-    (rw c.as_slice.ensures at c.in_err-kind-in-Kept.ensures.cost) (omega arith) (omega arith))
+    (rw c.as_slice.ensures at c.in_err-kind-in-Kept.ensures.costs.cost) (omega arith) (omega arith))
 
 pub returns-in_ok-kind-in-Kept-clause-chosen : goal.returns-in_ok-kind-in-Kept-clause-chosen
 returns-in_ok-kind-in-Kept-clause-chosen c =
@@ -54,20 +54,20 @@ returns-in_ok-kind-in-Kept-clause-chosen c =
     with_content b c.args.question.now.name.now c.args.question.now.host (plain_finding c.in_ok-finding.finding) (Some _) c.in-Kept.kinds
     c.in_ok-kind-in-Kept.kind.now leaves.1
     (c.in_ok-finding.ensures.found b (suffices_content c.args.indexed.now c.args.question.now.name.now (bytes_of c.args.front ≡ None) b (Kept c.in-Kept.kinds) leaves enough))
-    ((rw c.as_slice.ensures at c.in_ok-kind-in-Kept.ensures.chosen) b
+    ((rw c.as_slice.ensures at c.in_ok-kind-in-Kept.ensures.answers.chosen) b
     (suffices_choice c.args.indexed.now c.args.question.now.name.now (bytes_of c.args.front ≡ None) b c.in-Kept.kinds leaves.1 leaves.0 enough)))
 
 pub returns-in_ok-kind-in-Kept-clause-near : goal.returns-in_ok-kind-in-Kept-clause-near
 returns-in_ok-kind-in-Kept-clause-near c =
     rw c.in-Kept.is (λ b globs leaves decide.
     let none = none_kept b c.args.question.now.name.now _ c.in-Kept.kinds leaves.1 leaves.0 decide in
-    let unspent = (rw c.as_slice.ensures at c.in_ok-kind-in-Kept.ensures.alone) (omega (arith, ap length none.0)) in
+    let unspent = (rw c.as_slice.ensures at c.in_ok-kind-in-Kept.ensures.costs.alone) (omega (arith, ap length none.0)) in
     omega (arith, unspent.looks.most_nodes, ap (λ (spending : Spending). spending.meter.nodes) (c.in_ok-finding.ensures.nothing none.1)))
 
 pub returns-in_ok-kind-in-Kept-clause-cost : goal.returns-in_ok-kind-in-Kept-clause-cost
 returns-in_ok-kind-in-Kept-clause-cost c =
     rw c.in-Kept.is (costs_sniffed (length c.args.question.now.name.now) _ c.in_ok-finding.ensures.cost
-    (rw c.as_slice.ensures at c.in_ok-kind-in-Kept.ensures.cost) (omega arith) (omega arith))
+    (rw c.as_slice.ensures at c.in_ok-kind-in-Kept.ensures.costs.cost) (omega arith) (omega arith))
 
 pub returns-in_err-kind-in-Unasked-clause-stops : goal.returns-in_err-kind-in-Unasked-clause-stops
 returns-in_err-kind-in-Unasked-clause-stops = of_unasked.returns-in_err-kind-in-Unasked-clause-stops

@@ -9,7 +9,7 @@ use Rattle.mime_lookup.specs.StepFaults.{of_choice}
 use Rattle.mime_lookup.proofs.CostLemmas.Costs.{costs_halves, costs_looks, costs_then, costs_wider}
 use Rattle.mime_lookup.proofs.LookUpLemmas.NamesAlone.{affords_unseen, chosen_unseen, decides_unseen, suffices_unseen}
 use Rattle.mime_lookup.proofs.LookUpLemmas.Wants.{magic_for_front, stops_limit, wants_front, wants_none}
-use Rattle.mime_lookup.proofs.OrderLemmas.ByContents.{suffices_globs, used_for}
+use Rattle.mime_lookup.proofs.OrderLemmas.ByContents.{suffices_globs, used_unread}
 use Rattle.mime_lookup.proofs.StopLemmas.StepStops.{passed_on, rest_fault, stops_then}
 use Rattle.mime_lookup.proofs.cached.by_name_alone.ask.Goals as goal
 use Rattle.mime_view.specs.declared.budget.Budget.{Budget}
@@ -55,7 +55,7 @@ returns-in_err-wanted-in-Left-clause-stops c =
     let gives = rw c.in-Left.is at c.in_ok-given.ensures.gives in
     passed_on _ stop.field-0.0 c.from_residual-in_err-wanted-in-Left.result c.from_residual-in_err-wanted-in-Left.ensures.1
     (stops_limit c.args.indexed.now name c.args.question.now.order stop.field-0.0
-    (IsUsedUp c.args.indexed.now ⊤ c.front_limit.new.spending.budget)
+    (IsUsedUp c.args.indexed.now ⊤ c.args.spending.now.budget c.front_limit.new.spending.budget)
     (λ b. SufficesForName c.args.indexed.now name c.args.question.now.order b × Affords b c.args.spending.now.budget)
     stop.ensures.fault
     (λ b enough.
@@ -84,7 +84,7 @@ returns-in_err-kind-in-Left-clause-stops c =
     let same = c.front_limit.ensures.cost.budget in
     passed_on _ stop.field-0.0 c.from_residual-in_err-kind-in-Left.result c.from_residual-in_err-kind-in-Left.ensures.1
     (stops_then (cause_of stop.field-0.0) stop.ensures.stops
-    (used_for c.args.indexed.now c.by_content.new.spending.budget (λ none. refl))
+    (used_unread c.args.indexed.now c.args.spending.now.budget c.front_limit.new.spending.budget c.by_content.new.spending.budget refl)
     (λ b enough.
     affords_unseen c.args.indexed.now name c.args.question.now.order c.in-Left.candidates b (gives b enough.0.1.0)
     c.args.spending.now.budget c.front_limit.new.spending.budget

@@ -1,11 +1,12 @@
-use Rattle.std.proofs.Common.{refl, arith}
-use Rattle.mime_lookup.proofs.LookUpLemmas.Wants.{stops_name}
-use Rattle.mime_lookup.proofs.StopLemmas.OpenFaults.{opens_without_fault}
+use Rattle.std.proofs.Common.{arith}
+use Rattle.mime_lookup.proofs.LookUpLemmas.NameLookUps.{naming}
 use Rattle.mime_lookup.proofs.cached.by_name_alone.look_up_name_again.Goals as goal
 
-pub returns-in-Err : goal.returns-in-Err
-returns-in-Err c = record {
-  promises = stops_name c.args.indexed.now c.args.name.now c.args.order c.in-Err.fault _ c.from.ensures refl (omega arith)
-      (λ e fault. absurd (opens_without_fault c.args.indexed.now e c.in-Err.ensures.opens fault))
-      c.in-Err.ensures.stops c.in-Err.ensures.fault c.in-Err.ensures.bounds;
-}
+pub returns : goal.returns
+returns c =
+    let step = c.ask_opened-found in
+    let is = step.ensures in
+    record {
+      promises = rw c.told.ensures (naming c.args.indexed.now c.args.name.now c.args.order step.result step.new.meter (omega arith)
+          is.answers is.faults is.stops is.costs);
+    }

@@ -14,9 +14,15 @@ returns-in_err-limit-clause-stops c =
     (λ same. absurd (no_place (field c.args.indexed.now 0 6) (sym step.ensures.fault.1 ∙ same)))
     (λ b enough. absurd (step.ensures.need b enough.0)))
 
-pub returns-clause-answer : goal.returns-clause-answer
-returns-clause-answer c = λ b magic.
-    IfOk-weaker c.sniff_whole.result _ _
-    (λ found sniffs.
-    taken_front b c.args.host c.args.content.now c.in_ok-limit.limit (c.in_ok-limit.ensures.spelled b magic) found.0.now found.1 sniffs)
-    (rw c.front_of-front.ensures at (c.sniff_whole.ensures.answer b magic))
+pub returns-clause-stops : goal.returns-clause-stops
+returns-clause-stops c = rw c.front_limit.ensures.cost.budget at c.sniff_whole.ensures.stops
+
+pub returns-clause-answers : goal.returns-clause-answers
+returns-clause-answers c = record {
+  answer = λ b magic.
+      IfOk-weaker c.sniff_whole.result _ _
+      (λ found sniffs.
+      taken_front b c.args.host c.args.content.now c.in_ok-limit.limit (c.in_ok-limit.ensures.spelled b magic) found.0.now found.1 sniffs)
+      (rw c.front_of-front.ensures at (c.sniff_whole.ensures.answers.answer b magic));
+  kind = c.sniff_whole.ensures.answers.kind;
+}

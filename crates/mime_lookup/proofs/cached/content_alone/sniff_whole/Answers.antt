@@ -12,7 +12,7 @@ returns-in_err-finding-clause-stops c =
     let step = c.in_err-finding in
     passed_on _ step.field-0.0 c.from_residual.result c.from_residual.ensures.1
     (stops_then (cause_of step.field-0.0) step.ensures.stops
-    (used_for c.args.indexed.now c.sniff_front.new.spending.budget (λ none. absurd none))
+    (used_for c.args.indexed.now c.args.spending.now.budget c.sniff_front.new.spending.budget (λ none. absurd none))
     (λ b enough. (inl enough.0, enough.1, enough.2)) (λ b enough read. read))
 
 pub returns-in_err-finding-clause-fault : goal.returns-in_err-finding-clause-fault
@@ -28,10 +28,13 @@ returns-in_err-kind-clause-stops c =
     (λ same. absurd (no_alias c.args.indexed.now step.field-0.0 step.ensures.fault same))
     (λ b enough. absurd (step.ensures.answer b enough.0.offsets enough.0.header enough.0.aliases)))
 
-pub returns-clause-answer : goal.returns-clause-answer
-returns-clause-answer c = λ b magic.
-    let found = c.in_ok-finding.ensures.found b (inl magic) in (
-      c.in_ok-kind.ensures.answer b magic.offsets magic.header magic.aliases ∙ ap (resolved_finding b.aliases) found
-          ∙ sym (sniffed-found b (Some c.args.front.now) c.args.host),
-      c.priority_of.ensures ∙ ap priority_of found ∙ priority-found b c.args.front.now c.args.host,
-    )
+pub returns-clause-answers : goal.returns-clause-answers
+returns-clause-answers c = record {
+  answer = λ b magic.
+      let found = c.in_ok-finding.ensures.found b (inl magic) in (
+        c.in_ok-kind.ensures.answer b magic.offsets magic.header magic.aliases ∙ ap (resolved_finding b.aliases) found
+            ∙ sym (sniffed-found b (Some c.args.front.now) c.args.host),
+        c.priority_of.ensures ∙ ap priority_of found ∙ priority-found b c.args.front.now c.args.host,
+      );
+  kind = c.in_ok-kind.ensures.kind;
+}

@@ -12,8 +12,8 @@ returns-in_err-section-clause-stops c =
     let sniff = c.in_err-section in
     rw c.in-Some.is (passed_on _ sniff.field-0.0 c.from_residual.result c.from_residual.ensures.1
     (stops_for _ _ _ sniff.field-0.0
-    (sniff_fault_spent c.args.cache.now c.in-Some.front.now c.args.host c.sniff.new.budget _ (λ none. absurd cc) sniff.field-0.0
-    sniff.ensures.fault)
+    (sniff_fault_spent c.args.cache.now c.in-Some.front.now c.args.host _ c.sniff.new.budget _ (λ none. absurd cc) sniff.ensures.asked
+    sniff.field-0.0 sniff.ensures.fault)
     (λ b enough.
     let spells = content_magic c.args.cache.now c.in-Some.front.now b enough.0 in
     absurd (true≢false (sym

@@ -5,7 +5,7 @@ use Rattle.mime_lookup.proofs.StopLemmas.Cause.{says_fault}
 use Rattle.mime_lookup.proofs.cached.subclass.is_a_again.Goals as goal
 
 pub returns-in-Err-clause-stops : goal.returns-in-Err-clause-stops
-returns-in-Err-clause-stops c = reported c.args.cache.now _ _ c.in-Err.fault _ c.from.ensures c.in-Err.ensures.stops
+returns-in-Err-clause-stops c = reported c.args.indexed.now _ _ c.in-Err.fault _ c.from.ensures c.in-Err.ensures.stops
 
 pub returns-in-Err-clause-spent : goal.returns-in-Err-clause-spent
 returns-in-Err-clause-spent c = λ spent.

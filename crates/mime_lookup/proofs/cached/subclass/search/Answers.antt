@@ -22,14 +22,14 @@ leads_to-requires c = record {
   base =
       ⊎_elim
       (λ same. omega (arith, ap length same, c.requires.base))
-      (λ text. text_short c.args.cache.now text.0 c.in_ok-base.base.now text.1)
+      (λ text. text_short c.args.indexed.now text.0 c.in_ok-base.base.now text.1)
       c.in_ok-base.ensures.given.text;
 }
 
 pub returns-clause-answer : goal.returns-clause-answer
 returns-clause-answer c = λ b spells.
-    let none : NoneLeadsTo (marked_by c.args.cache.now c.new-marks.result) (pairs_of b) c.in_ok-base.base.now =
-    rw c.new-marks.ensures (λ kind is is_a. cc (marked-none c.args.cache.now (field c.args.cache.now 0 2) kind, is)) in
+    let none : NoneLeadsTo (marked_by c.args.indexed.now c.new-marks.result) (pairs_of b) c.in_ok-base.base.now =
+    rw c.new-marks.ensures (λ kind is is_a. cc (marked-none c.args.indexed.now (field c.args.indexed.now 0 2) kind, is)) in
     rw (
       c.in_ok-kind.ensures.answer spells.offsets b.aliases spells.header spells.aliases,
       c.in_ok-base.ensures.answer spells.offsets b.aliases spells.header spells.aliases,
@@ -37,7 +37,7 @@ returns-clause-answer c = λ b spells.
 
 pub returns-clause-need : goal.returns-clause-need
 returns-clause-need c = λ b spells enough.
-    let most = unmarked_most b.parents (marked_by c.args.cache.now c.new-marks.result) in
+    let most = unmarked_most b.parents (marked_by c.args.indexed.now c.new-marks.result) in
     let records : Budget → ℕ = λ budget. budget.records in
     (c.leads_to.ensures.takes b spells).need
     (omega (arith, most, enough, ap records c.unalias.ensures.budget, ap records c.unalias-2.ensures.budget))

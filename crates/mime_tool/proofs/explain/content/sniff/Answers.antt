@@ -9,9 +9,9 @@ unreachable-requires c =
     let b = database_of c.args.explaining in
     let back = c.requires.ready.back in
     let magic = spelled_magic c.args.explaining.bytes.now b back.limits back.spelled in
-    let failed = rw c.opened-cache.ensures at c.in-Err.ensures in
-    let records = rw c.opened-cache.ensures at c.of-budget.ensures.records in
-    let value_bytes = rw c.opened-cache.ensures at c.of-budget.ensures.value_bytes in
+    let failed = rw (c.cache-cache.ensures.cache, c.opened-indexed.ensures) at c.in-Err.ensures in
+    let records = rw c.opened-indexed.ensures at c.budget-budget.ensures.records in
+    let value_bytes = rw c.opened-indexed.ensures at c.budget-budget.ensures.value_bytes in
     let answers = failed.answers magic.offsets b.sections magic.header magic.lines magic.magic in
     false≢true (answers.need tt (omega (arith, back.packed.records, records))
     (omega (arith, back.packed.values, value_bytes)))
@@ -21,5 +21,5 @@ returns-clause-section c =
     let b = database_of c.args.explaining in
     let back = c.requires.ready.back in
     let magic = spelled_magic c.args.explaining.bytes.now b back.limits back.spelled in
-    let found = rw c.opened-cache.ensures at c.in-Ok.ensures in
+    let found = rw (c.cache-cache.ensures.cache, c.opened-indexed.ensures) at c.in-Ok.ensures in
     (found.answers magic.offsets b.sections magic.header magic.lines magic.magic).answer

@@ -5,5 +5,5 @@ use Rattle.mime_tool.proofs.explain.decision.is_kind_below.Goals as goal
 pub returns-in-Ok : goal.returns-in-Ok
 returns-in-Ok c =
     let it = c.args.explaining in
-    let found = rw c.opened-cache.ensures at c.in-Ok.ensures in
+    let found = rw c.opened-indexed.ensures at c.in-Ok.ensures in
     found.answer (database_of it) (spelled_pairs it.bytes.now (database_of it) c.requires.ready.back.spelled)

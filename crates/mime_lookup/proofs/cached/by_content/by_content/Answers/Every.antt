@@ -5,7 +5,7 @@ use Rattle.mime_lookup.specs.Finding.{is_by_magic}
 use Rattle.mime_lookup.specs.Halves.{bytes_of}
 use Rattle.mime_lookup.specs.declared.cached.by_name.Candidates.TheVariants.{Every}
 use Rattle.mime_lookup.specs.declared.order.Order.TheVariants.{AllGlobs}
-use Rattle.mime_lookup.proofs.OrderLemmas.ByContents.{asked_all, asked_few, one_asked, suffices_asked, suffices_content, suffices_globs, used_for}
+use Rattle.mime_lookup.proofs.OrderLemmas.ByContents.{asked_all, asked_few, one_asked, suffices_asked, suffices_content, suffices_globs, used_unread}
 use Rattle.mime_lookup.proofs.CostLemmas.Costs.{costs_sniffed}
 use Rattle.mime_lookup.proofs.OrderLemmas.AllGlobs.{every_with_content}
 use Rattle.mime_lookup.proofs.CostLemmas.Near.{few_asked}
@@ -27,7 +27,7 @@ returns-in_err-kind-in-Every-clause-stops c =
     let choose = rw asked at c.in_err-kind-in-Every.ensures.stops in
     rw c.in-Every.is (passed_on _ c.in_err-kind-in-Every.field-0.0 c.from_residual-in_err-kind-in-Every.result
     c.from_residual-in_err-kind-in-Every.ensures.1 (stops_then (cause_of c.in_err-kind-in-Every.field-0.0) choose
-    (used_for c.args.indexed.now c.choose-in-Every.new.spending.budget (λ none. tt)) (λ b enough.
+    (used_unread c.args.indexed.now c.args.spending.now.budget _ c.choose-in-Every.new.spending.budget tt) (λ b enough.
     let content = suffices_content c.args.indexed.now c.args.question.now.name.now (bytes_of c.args.front ≡ None) b (Every c.in-Every.kinds c.in-Every.asked) enough.1 enough.0 in (
       suffices_asked c.args.indexed.now c.args.question.now.name.now (bytes_of c.args.front) b c.args.question.now.host (plain_finding c.in_ok-finding.finding)
           c.in-Every.kinds c.in-Every.asked (c.in_ok-finding.ensures.found b content) enough.1 enough.0,
@@ -40,7 +40,7 @@ returns-in_err-kind-in-Every-clause-cost c =
     let asked = rw c.as_slice-in-Every.ensures at c.asked_of-kinds.ensures in
     let few = asked_few (is_by_magic (plain_finding c.in_ok-finding.finding)) c.in-Every.kinds c.in-Every.asked in
     rw c.in-Every.is (costs_sniffed (length c.args.question.now.name.now) _ c.in_ok-finding.ensures.cost
-    (rw asked at c.in_err-kind-in-Every.ensures.cost) (omega arith) (omega (arith, few)))
+    (rw asked at c.in_err-kind-in-Every.ensures.costs.cost) (omega arith) (omega (arith, few)))
 
 -- a type is chosen: the order gives this type
 pub returns-in_ok-kind-in-Every-clause-chosen : goal.returns-in_ok-kind-in-Every-clause-chosen
@@ -53,7 +53,7 @@ returns-in_ok-kind-in-Every-clause-chosen c =
     let found = c.in_ok-finding.ensures.found b content in
     every_with_content b name c.args.question.now.host globs.ranks (plain_finding c.in_ok-finding.finding) (Some _)
     c.in_ok-kind-in-Every.kind.now found
-    (rw (leaves.1, leaves.2) at ((rw asked at c.in_ok-kind-in-Every.ensures.chosen) b
+    (rw (leaves.1, leaves.2) at ((rw asked at c.in_ok-kind-in-Every.ensures.answers.chosen) b
     (suffices_asked c.args.indexed.now name (bytes_of c.args.front) b c.args.question.now.host (plain_finding c.in_ok-finding.finding)
     c.in-Every.kinds c.in-Every.asked found leaves enough))))
 
@@ -65,7 +65,7 @@ returns-in_ok-kind-in-Every-clause-near c =
     let name = c.args.question.now.name.now in
     let none = (few_asked b name _ c.in-Every.asked leaves.2 leaves.0 decide).1 in
     let found = c.in_ok-finding.ensures.found b (inr none) in
-    let unspent = (rw asked at c.in_ok-kind-in-Every.ensures.alone) (one_asked c.args.indexed.now name (bytes_of c.args.front) b
+    let unspent = (rw asked at c.in_ok-kind-in-Every.ensures.costs.alone) (one_asked c.args.indexed.now name (bytes_of c.args.front) b
     c.args.question.now.host (plain_finding c.in_ok-finding.finding) c.in-Every.kinds c.in-Every.asked found leaves decide) in
     omega (arith, unspent.looks.most_nodes, ap (λ (spending : Spending). spending.meter.nodes) (c.in_ok-finding.ensures.nothing none)))
 
@@ -75,4 +75,4 @@ returns-in_ok-kind-in-Every-clause-cost c =
     let asked = rw c.as_slice-in-Every.ensures at c.asked_of-kinds.ensures in
     let few = asked_few (is_by_magic (plain_finding c.in_ok-finding.finding)) c.in-Every.kinds c.in-Every.asked in
     rw c.in-Every.is (costs_sniffed (length c.args.question.now.name.now) _ c.in_ok-finding.ensures.cost
-    (rw asked at c.in_ok-kind-in-Every.ensures.cost) (omega arith) (omega (arith, few)))
+    (rw asked at c.in_ok-kind-in-Every.ensures.costs.cost) (omega arith) (omega (arith, few)))

@@ -4,7 +4,7 @@ use Rattle.mime_lookup.specs.Cached.{cause_of, plain_finding}
 use Rattle.mime_lookup.specs.Halves.{bytes_of}
 use Rattle.mime_lookup.specs.declared.cached.by_name.Candidates.TheVariants.{Ignored, Unasked}
 use Rattle.mime_lookup.specs.declared.order.Order.TheVariants.{ContentOnly, MagicFirst}
-use Rattle.mime_lookup.proofs.OrderLemmas.ByContents.{not_high, suffices_content, suffices_globs, suffices_last, used_for}
+use Rattle.mime_lookup.proofs.OrderLemmas.ByContents.{not_high, suffices_content, suffices_globs, suffices_last, used_unread}
 use Rattle.mime_lookup.proofs.CostLemmas.Costs.{costs_looks, costs_sniffed}
 use Rattle.mime_lookup.proofs.OrderLemmas.ContentOnly.{by_finding}
 use Rattle.mime_lookup.proofs.OrderLemmas.MagicFirst.{by_high_magic, by_low_magic}
@@ -62,7 +62,7 @@ returns-in_err-kind-in-Unasked-2-clause-stops c =
     rw c.in-Unasked.is (passed_on _ globs_stop.field-0.0 c.from_residual-in_err-kind-in-Unasked-2.result
     c.from_residual-in_err-kind-in-Unasked-2.ensures.1
     (stops_then (cause_of globs_stop.field-0.0) globs_stop.ensures.stops
-    (used_for c.args.indexed.now c.by_globs.new.spending.budget (λ none. tt))
+    (used_unread c.args.indexed.now c.args.spending.now.budget _ c.by_globs.new.spending.budget tt)
     (λ b enough.
     let content = suffices_content c.args.indexed.now c.args.question.now.name.now (bytes_of c.args.front ≡ None) b Unasked enough.1 enough.0 in (
       suffices_last c.args.indexed.now c.args.question.now.name.now (bytes_of c.args.front ≡ None) b enough.0,
@@ -81,7 +81,7 @@ returns-in_err-kind-in-Unasked-2-clause-fault c =
 pub returns-in_err-kind-in-Unasked-2-clause-cost : goal.returns-in_err-kind-in-Unasked-2-clause-cost
 returns-in_err-kind-in-Unasked-2-clause-cost c =
     rw c.in-Unasked.is (costs_sniffed (length c.args.question.now.name.now) _ c.in_ok-finding.ensures.cost
-    c.in_err-kind-in-Unasked-2.ensures.cost (omega arith) (omega arith))
+    c.in_err-kind-in-Unasked-2.ensures.costs.cost (omega arith) (omega arith))
 
 -- the globs give the type: the order gives this type
 pub returns-in_ok-kind-in-Unasked-2-clause-chosen : goal.returns-in_ok-kind-in-Unasked-2-clause-chosen
@@ -91,7 +91,7 @@ returns-in_ok-kind-in-Unasked-2-clause-chosen c =
     c.in_ok-kind-in-Unasked-2.kind.now
     (c.in_ok-finding.ensures.found b (suffices_content c.args.indexed.now c.args.question.now.name.now (bytes_of c.args.front ≡ None) b Unasked leaves enough))
     (sym c.is_high.ensures ∙ c.if-is_high.false)
-    (c.in_ok-kind-in-Unasked-2.ensures.chosen b (suffices_last c.args.indexed.now c.args.question.now.name.now (bytes_of c.args.front ≡ None) b enough)))
+    (c.in_ok-kind-in-Unasked-2.ensures.answers.chosen b (suffices_last c.args.indexed.now c.args.question.now.name.now (bytes_of c.args.front ≡ None) b enough)))
 
 -- the globs give the type: the records where the globs decide
 pub returns-in_ok-kind-in-Unasked-2-clause-near : goal.returns-in_ok-kind-in-Unasked-2-clause-near
@@ -100,7 +100,7 @@ returns-in_ok-kind-in-Unasked-2-clause-near c =
     let without = decide_without b c.args.question.now.name.now _ decide in
     omega (
       arith,
-      c.in_ok-kind-in-Unasked-2.ensures.near b globs without.1,
+      c.in_ok-kind-in-Unasked-2.ensures.costs.near b globs without.1,
       ap (λ (spending : Spending). spending.meter.nodes) (c.in_ok-finding.ensures.nothing without.0),
     ))
 
@@ -108,7 +108,7 @@ returns-in_ok-kind-in-Unasked-2-clause-near c =
 pub returns-in_ok-kind-in-Unasked-2-clause-cost : goal.returns-in_ok-kind-in-Unasked-2-clause-cost
 returns-in_ok-kind-in-Unasked-2-clause-cost c =
     rw c.in-Unasked.is (costs_sniffed (length c.args.question.now.name.now) _ c.in_ok-finding.ensures.cost
-    c.in_ok-kind-in-Unasked-2.ensures.cost (omega arith) (omega arith))
+    c.in_ok-kind-in-Unasked-2.ensures.costs.cost (omega arith) (omega arith))
 
 -- the alias step of what was found stops: the reason
 pub returns-in_err-kind-in-Ignored-clause-stops : goal.returns-in_err-kind-in-Ignored-clause-stops

@@ -1,16 +1,34 @@
-use Rattle.std.proofs.Common.{map, ap, sym, subst, ◌∙◌}
+use Rattle.std.proofs.Common.{List, map, ap, sym, subst, ◌∙◌}
 use Rattle.std.specs.List.{All}
 use Rattle.mime_names.specs.Rules.{plain_named}
 use Rattle.mime_base.specs.Kept.{FitsRank}
-use Rattle.mime_lookup.proofs.SpellingLemmas.ReadLists.{rules_of_lists, steps_fit}
+use Rattle.mime_load.specs.Lent.{plain_pairs}
+use Rattle.mime_load.specs.NameLists.{listed_rules}
+use Rattle.mime_load.specs.declared.pair.LentPair.{LentPair}
+use Rattle.mime_lookup.specs.ReadBack.{AreTargets}
+use Rattle.mime_lookup.proofs.SpellingLemmas.ReadLists.{rules_of_lists, steps_fit, targets_of_lists}
+use Rattle.mime_lookup.proofs.SpellingLemmas.Targets.{rules_by_targets}
 use Rattle.mime_lookup.proofs.read_back.names.IndexedNames.new.Goals as goal
 
 pub new-requires : goal.new-requires
 new-requires c =
-    subst (All FitsRank) (sym (ap (map plain_named) c.deref.ensures.value ∙ c.in_ok-rules.ensures))
-    (steps_fit c.args.counted c.args.lists.now c.requires)
+    let lists = c.args.lists.now in
+    let targets = c.in_ok-targets.targets in
+    let are : AreTargets (plain_pairs lists.aliases.items) targets =
+    subst (λ (pairs : List LentPair). AreTargets (plain_pairs pairs) targets) c.deref.ensures.value c.in_ok-targets.ensures in
+    subst (All FitsRank)
+    (sym (ap (map plain_named) c.deref-2.ensures.value ∙ c.in_ok-rules.ensures
+    ∙ rules_by_targets (plain_pairs lists.aliases.items) targets are (listed_rules lists)))
+    (steps_fit c.args.counted lists c.requires)
 
 pub invariant_of-result : goal.invariant_of-result
 invariant_of-result c =
-    rules_of_lists c.args.counted c.args.lists.now c.requires c.in_ok-index.index
-    (c.in_ok-index.ensures ∙ ap (map plain_named) c.deref.ensures.value ∙ c.in_ok-rules.ensures)
+    let lists = c.args.lists.now in
+    let targets = c.in_ok-targets.targets in
+    let are : AreTargets (plain_pairs lists.aliases.items) targets =
+    subst (λ (pairs : List LentPair). AreTargets (plain_pairs pairs) targets) c.deref.ensures.value c.in_ok-targets.ensures in (
+      rules_of_lists c.args.counted lists c.requires c.in_ok-index.index
+          (c.in_ok-index.ensures ∙ ap (map plain_named) c.deref-2.ensures.value ∙ c.in_ok-rules.ensures
+          ∙ rules_by_targets (plain_pairs lists.aliases.items) targets are (listed_rules lists)),
+      targets_of_lists c.args.counted lists c.requires targets are,
+    )

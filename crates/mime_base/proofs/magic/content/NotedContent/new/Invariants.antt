@@ -1,6 +1,6 @@
 use Rattle.std.proofs.Common.{◌≡◌, ◌≤◌, length}
 use Rattle.mime_base.specs.Magic.Places.{NotesFrom}
-use Rattle.mime_base.proofs.magic.content.Content.new.Given as goal
+use Rattle.mime_base.proofs.magic.content.NotedContent.new.Given as goal
 
 abbrev pub invariant-loop-place : goal.invariant-loop-place
 invariant-loop-place l = record {

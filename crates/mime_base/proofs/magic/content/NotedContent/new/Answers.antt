@@ -2,7 +2,7 @@ use Rattle.std.proofs.Common.{◌≡◌, ℕ, ◌<◌, ◌+◌, ◌-◌, length,
 use Rattle.std.proofs.lemmas.List.{length-replicate, length-set}
 use Rattle.mime_base.specs.Magic.Places.{NotesFrom}
 use Rattle.mime_base.proofs.MagicLemmas.NotedPlaces.{notes_more}
-use Rattle.mime_base.proofs.magic.content.Content.new.Goals as goal
+use Rattle.mime_base.proofs.magic.content.NotedContent.new.Goals as goal
 
 pub loop-place-init : goal.loop-place-init
 loop-place-init c = record {
