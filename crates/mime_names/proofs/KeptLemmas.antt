@@ -55,7 +55,7 @@ kept-none patterns found kinds is none =
     (sym (length-map (of_greatest rank found) (λ (rule : IndexedRule). rule.kind)) ∙ sym (ap length is) ∙ none))
 
 -- filtering values is filtering by value
-filter-map : {X Y : Type 0} (value : X → Y) (p : Y → Bool) (xs : List X) → filter p (map value xs) ≡ map value (filter (λ x. p (value x)) xs)
+pub filter-map : {X Y : Type 0} (value : X → Y) (p : Y → Bool) (xs : List X) → filter p (map value xs) ≡ map value (filter (λ x. p (value x)) xs)
 filter-map value p [] = refl
 filter-map {X} {Y} value p (x ∷ xs) = by_cases (p (value x)) (filter-map value p xs)
   where
@@ -66,7 +66,7 @@ filter-map {X} {Y} value p (x ∷ xs) = by_cases (p (value x)) (filter-map value
     by_cases false rest = rest
 
 -- two filters are one
-filter-both : {X : Type 0} (p q : X → Bool) (xs : List X) → filter p (filter q xs) ≡ filter (λ x. p x && q x) xs
+pub filter-both : {X : Type 0} (p q : X → Bool) (xs : List X) → filter p (filter q xs) ≡ filter (λ x. p x && q x) xs
 filter-both p q [] = refl
 filter-both {X} p q (x ∷ xs) = by_cases (p x) (q x) refl (filter-both p q xs)
   where
@@ -126,7 +126,7 @@ module _ (patterns : List ℕ) (rules : List IndexedRule) (name : List ℕ) wher
         ∙ ap (map (λ (rule : GlobRule). rule.kind)) (sym (of_greatest-map rank_of_rule (plain patterns) found))
 
     -- the hits that are texts
-    texts-plain : filter is_text_rule (hits (rules_of_index patterns rules) name) ≡ map (plain patterns) (hits_of patterns (texts patterns) rules name)
+    pub texts-plain : filter is_text_rule (hits (rules_of_index patterns rules) name) ≡ map (plain patterns) (hits_of patterns (texts patterns) rules name)
     texts-plain =
         ap (filter is_text_rule) hits-plain
         ∙ filter-map (plain patterns) is_text_rule (hits_of patterns (every patterns) rules name)

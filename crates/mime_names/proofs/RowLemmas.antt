@@ -34,6 +34,10 @@ tree-none tree starts slots = record {
   apart = λ node some. absurd (omega (arith, some, start-none node));
   blank = λ s low. slot-none s;
   nodes = λ i. omega (arith, slot-none i, ap length starts);
+  whole = omega (arith, many);
+  aligned = λ node. omega (arith, start-none node);
+  own = λ m n some. absurd (omega (arith, some, start-none m));
+  once = λ i j some. absurd (omega (arith, some, slot-none i));
 }
   where
     start-none : (node : ℕ) → get_or tree.starts.items node 0 ≡ 0
@@ -101,6 +105,28 @@ module _ (old new : Tree) (node row : ℕ) (blank : List ℕ) (is : IsTree old) 
       | inl front ↦ omega (arith, slot-kept i front, is.nodes i, nodes-made)
       | inr past ↦ omega (arith, slot-made i past, is.some, nodes-made)
     ];
+    whole = omega (arith, slots-made, is.whole);
+    aligned = λ n. elim (cases_eq n node) [
+      | inl same ↦ omega (arith, ap (λ m. get_or new.starts.items m 0) same, start-made, end, is.whole)
+      | inr other ↦ omega (arith, start-kept n other, is.aligned n)
+    ];
+    own = λ m n some same. elim (cases_eq m node) [
+      | inl first ↦ elim (cases_eq n node) [
+        | inl second ↦ omega (arith, first, second)
+        | inr other ↦ absurd (omega (arith, same, ap (λ k. get_or new.starts.items k 0) first, start-made, end, start-kept n other, is.rows n))
+      ]
+      | inr other ↦ elim (cases_eq n node) [
+        | inl second ↦ absurd (omega (arith, same, ap (λ k. get_or new.starts.items k 0) second, start-made, end, start-kept m other, is.rows m))
+        | inr also ↦ is.own m n (omega (arith, some, start-kept m other)) (sym (start-kept m other) ∙ same ∙ start-kept n also)
+      ]
+    ];
+    once = λ i j some same. elim (cases_lt i (length old.slots.items)) [
+      | inl front ↦ elim (cases_lt j (length old.slots.items)) [
+        | inl also ↦ is.once i j (omega (arith, some, slot-kept i front)) (sym (slot-kept i front) ∙ same ∙ slot-kept j also)
+        | inr past ↦ absurd (omega (arith, some, same, slot-made j past))
+      ]
+      | inr past ↦ absurd (omega (arith, some, slot-made i past))
+    ];
   }
 
   -- a node that had none has a row
@@ -165,6 +191,19 @@ module _ (old mid new : Tree) (node s row next : ℕ) (has : HasRow old node mid
     nodes = λ i. elim (cases_eq i (row + s)) [
       | inl own ↦ omega (arith, ap (λ k. get_or new.slots.items k 0) own, slot-set, count, nodes-more)
       | inr other ↦ omega (arith, slot-other i other, has.is_tree.nodes i, nodes-more)
+    ];
+    whole = omega (arith, slots-same, has.is_tree.whole);
+    aligned = λ n. omega (arith, start-same n, has.is_tree.aligned n);
+    own = λ m n some same. has.is_tree.own m n (omega (arith, some, start-same m)) (sym (start-same m) ∙ same ∙ start-same n);
+    once = λ i j some same. elim (cases_eq i (row + s)) [
+      | inl first ↦ elim (cases_eq j (row + s)) [
+        | inl second ↦ omega (arith, first, second)
+        | inr other ↦ absurd (omega (arith, same, ap (λ k. get_or new.slots.items k 0) first, slot-set, count, slot-other j other, has.is_tree.nodes j))
+      ]
+      | inr other ↦ elim (cases_eq j (row + s)) [
+        | inl second ↦ absurd (omega (arith, same, ap (λ k. get_or new.slots.items k 0) second, slot-set, count, slot-other i other, has.is_tree.nodes i))
+        | inr also ↦ has.is_tree.once i j (omega (arith, some, slot-other i other)) (sym (slot-other i other) ∙ same ∙ slot-other j also)
+      ]
     ];
   }
 

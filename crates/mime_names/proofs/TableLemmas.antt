@@ -17,14 +17,18 @@ pub table_alone : (table : KeyTable) (patterns : List ℕ) (rules : List Indexed
 table_alone table patterns rules is = record { is_tree = is.keyed.is_tree; chained = is.chained; room = is.room }
 
 -- the key of a node is above the others
-ends-high : (tree : Tree) (text : List ℕ) (key : ℕ) → IsEndKey tree text key → 257 ≤ key
+pub ends-high : (tree : Tree) (text : List ℕ) (key : ℕ) → IsEndKey tree text key → 257 ≤ key
 ends-high tree text key (inl ends) = omega (arith, ends.3)
 ends-high tree text key (inr whole) = omega (arith, whole.1)
 
 -- the others are below
-fronts-low : (name : List ℕ) (key : ℕ) → Fronts name key → key < 257
+pub fronts-low : (name : List ℕ) (key : ℕ) → Fronts name key → key < 257
 fronts-low name key (inl any) = omega (arith, any)
 fronts-low name key (inr begins) = omega (arith, begins.0)
+
+-- so no key is of both
+pub ends-fronts : (tree : Tree) (text name : List ℕ) (key : ℕ) → IsEndKey tree text key → Fronts name key → ⊥
+ends-fronts tree text name key ends front = omega (arith, ends-high tree text key ends, fronts-low name key front)
 
 module _ (table : KeyTable) (patterns : List ℕ) (rules : List IndexedRule) (is : IsTableOf table patterns rules) (own : All (IsIndexedRule patterns) rules) (name : List ℕ) where
   -- the keys of the endings of the name
@@ -38,14 +42,14 @@ module _ (table : KeyTable) (patterns : List ℕ) (rules : List IndexedRule) (is
       ap of_texts indexed.class
 
   -- a key of a node is one of a text
-  text-at : (p : ℕ) (rule : IndexedRule) → p < length rules → rule ≡ get_or rules p rule → 257 ≤ get_or table.keys.items p 0 → texts patterns rule ≡ true
+  pub text-at : (p : ℕ) (rule : IndexedRule) → p < length rules → rule ≡ get_or rules p rule → 257 ≤ get_or table.keys.items p 0 → texts patterns rule ≡ true
   text-at p rule within here high = elim (cases_Bool (texts patterns rule)) [
     | inl text ↦ text
     | inr other ↦ (let low = (is.keyed.each p rule within here).others (class-at p rule within here ∙ other) in absurd (omega (arith, low, high)))
   ]
 
   -- any other key is one of another rule
-  other-at : (p : ℕ) (rule : IndexedRule) → p < length rules → rule ≡ get_or rules p rule → get_or table.keys.items p 0 < 257 → others patterns rule ≡ true
+  pub other-at : (p : ℕ) (rule : IndexedRule) → p < length rules → rule ≡ get_or rules p rule → get_or table.keys.items p 0 < 257 → others patterns rule ≡ true
   other-at p rule within here low = elim (cases_Bool (texts patterns rule)) [
     | inl text ↦ (let high = (is.keyed.each p rule within here).texts (class-at p rule within here ∙ text) in absurd (omega (arith, low, high)))
     | inr other ↦ ap not other

@@ -1,12 +1,13 @@
 //! All rules that match a name, the preferred ones first.
 
-ghost use Rattle.std.specs.Prelude.{◌≡◌, Bool, length, map, IfOk};
+ghost use Rattle.std.specs.Prelude.{◌≡◌, ◌+◌, ◌≤◌, Bool, length, map, IfOk};
 ghost use Rattle.std.specs.List.{All};
 ghost use Rattle.std.specs.List.Sorted.{IsNonDecreasing};
 ghost use Rattle.mime_base.specs.Falling.{falling};
 ghost use Rattle.mime_base.specs.Kept.{candidate_rules};
 ghost use Rattle.mime_names.specs.Chains.{AreBelow};
 ghost use Rattle.mime_names.specs.Index.{texts_of};
+ghost use Rattle.mime_names.specs.Near.{near_nodes, near_rules};
 ghost use Rattle.mime_names.specs.Places.{AreNear};
 ghost use Rattle.mime_names.specs.Rules.{IsIndexedRule, hits_of, offer_of};
 ghost use Rattle.mime_names.specs.declared.indexed_rule.IndexedRule as spec;
@@ -18,6 +19,8 @@ use mime_base::{Meter, OutOfMemory};
 use std::alloc::Global;
 
 /// The types of all rules that match a name, by falling rank; those of one rank in their order.
+///
+/// The meter counts the steps in the index as nodes, and the bytes of the name that are compared.
 pub fn candidate_kinds<'a>(
     alloc: Global,
     index: &NameIndex<'a>,
@@ -26,10 +29,10 @@ pub fn candidate_kinds<'a>(
 ) -> Result<Vec<&'a [u8]>, OutOfMemory>
     // They are the types of all rules that match, the preferred ones first.
     ensures candidates { IfOk result (λ kinds. texts_of kinds.items ≡ map (λ rule. rule.kind) (candidate_rules index.now name.now)) }
-    // No record of a cache is visited.
-    ensures nodes { meter.new.nodes ≡ meter.old.nodes }
+    // Three nodes are counted for each byte of the name, six, and one for each rule near it, and no more.
+    ensures near { meter.new.nodes ≤ meter.old.nodes + near_nodes (length name.now) (near_rules name.now index.now) }
 {
-    let places = all_places(alloc, &index.table, name, &mut Meter::new())?;
+    let places = all_places(alloc, &index.table, name, meter)?;
     let found = offers(alloc, &index.patterns, &index.rules, &places, name, meter)?;
     let sorted = by_rank(found)?;
     let mut kinds = Vec::new(alloc);

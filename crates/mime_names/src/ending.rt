@@ -14,7 +14,7 @@ pub fn ends_so(text: &[u8], cased: bool, name: &[u8], meter: &mut Meter) -> bool
     ensures so { result ≡ true → (length text.now ≤ length name.now) × EndsSo cased text.now name.now }
     // Else none of its endings is.
     ensures otherwise { result ≡ false → (k : ℕ) → compared cased (drop k name.now) ≡ compared cased text.now → ⊥ }
-    // No record of a cache is visited.
+    // It counts no node.
     ensures nodes { meter.new.nodes ≡ meter.old.nodes }
 {
     if name.len() < text.len() {

@@ -118,7 +118,7 @@ pub fn is_match(patterns: &[u8], rule: &IndexedRule<'_>, name: &[u8], meter: &mu
     requires own { IsIndexedRule patterns.now rule.now }
     // It is true exactly where the pattern matches.
     ensures exact { result ≡ is_match patterns.now name.now rule.now }
-    // No record of a cache is visited.
+    // It counts no node.
     ensures nodes { meter.new.nodes ≡ meter.old.nodes }
 {
     let pattern = pattern_of(patterns, rule);

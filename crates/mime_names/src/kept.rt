@@ -1,13 +1,14 @@
 //! The rules that are kept of those that match a name.
 
-ghost use Rattle.std.specs.Prelude.{◌≡◌, Bool, length, map, IfOk};
+ghost use Rattle.std.specs.Prelude.{◌≡◌, ◌+◌, ◌<◌, ◌≤◌, Bool, filter, length, map, IfOk};
 ghost use Rattle.std.specs.List.{All};
 ghost use Rattle.std.specs.List.Sorted.{IsNonDecreasing};
-ghost use Rattle.mime_base.specs.Kept.{kept_rules, of_greatest, rank_of_rule};
+ghost use Rattle.mime_base.specs.Kept.{hits, kept_rules, of_greatest, rank_of_rule};
 ghost use Rattle.mime_names.specs.Chains.{AreBelow};
 ghost use Rattle.mime_names.specs.Index.{texts_of};
+ghost use Rattle.mime_names.specs.Near.{near_nodes, near_rules, near_texts};
 ghost use Rattle.mime_names.specs.Places.{AreNear};
-ghost use Rattle.mime_names.specs.Rules.{IsIndexedRule, hits_of, plain};
+ghost use Rattle.mime_names.specs.Rules.{IsIndexedRule, hits_of, is_text_rule, plain};
 ghost use Rattle.mime_names.specs.declared.indexed_rule.IndexedRule as spec;
 
 use crate::index::NameIndex;
@@ -18,7 +19,8 @@ use std::alloc::Global;
 
 /// The types of the rules that are kept of those that match a name, in their order.
 ///
-/// Where a text matches, or a star and a text, no other rule is asked.
+/// Where a text matches, or a star and a text, no other rule is asked. The meter counts the steps in the index as nodes, and the bytes
+/// of the name that are compared.
 pub fn kept_kinds<'a>(
     alloc: Global,
     index: &NameIndex<'a>,
@@ -27,15 +29,18 @@ pub fn kept_kinds<'a>(
 ) -> Result<Vec<&'a [u8]>, OutOfMemory>
     // They are the types of the kept rules.
     ensures kept { IfOk result (λ kinds. texts_of kinds.items ≡ map (λ rule. rule.kind) (kept_rules index.now name.now)) }
-    // No record of a cache is visited.
-    ensures nodes { meter.new.nodes ≡ meter.old.nodes }
+    // Three nodes are counted for each byte of the name, six, and one for each rule near it, and no more.
+    ensures near { meter.new.nodes ≤ meter.old.nodes + near_nodes (length name.now) (near_rules name.now index.now) }
+    // For a name that a text matches, or a star and a text, no other rules count.
+    ensures texts { 0 < length (filter is_text_rule (hits index.now name.now)) →
+        meter.new.nodes ≤ meter.old.nodes + near_nodes (length name.now) (near_texts name.now index.now) }
 {
-    let texts = text_places(alloc, &index.table, name, &mut Meter::new())?;
+    let texts = text_places(alloc, &index.table, name, meter)?;
     let kept = best_kinds(alloc, &index.patterns, &index.rules, &texts, name, meter)?;
     if kept.len() > 0 {
         return Ok(kept);
     }
-    let others = front_places(alloc, &index.table, name, &mut Meter::new())?;
+    let others = front_places(alloc, &index.table, name, meter)?;
     let kinds = best_kinds(alloc, &index.patterns, &index.rules, &others, name, meter)?;
     Ok(kinds)
 }

@@ -2,9 +2,9 @@
 
 ghost use Rattle.std.specs.Prelude.{◌≡◌, ◌⊎◌, ℕ, ◌+◌, ◌*◌, ◌≤◌, ◌<◌, length, IfOk, OnOk};
 ghost use Rattle.std.specs.List.Sorted.{IsNonDecreasing, IsPermutation};
-ghost use Rattle.mime_names.specs.Chains.{GathersPlaces, Walks};
+ghost use Rattle.mime_names.specs.Chains.{AddsPlaces, GathersPlaces, Walks};
 ghost use Rattle.mime_names.specs.Keys.{Begins, IsEndKey, Fronts, IsTable, node_key};
-ghost use Rattle.mime_names.specs.Places.{AreSortedPlaces};
+ghost use Rattle.mime_names.specs.Places.{AreSortedPlaces, CountsPlaces};
 ghost use Rattle.mime_names.specs.Tree.{spelled};
 
 use crate::chains::{Found, push_chain};
@@ -20,18 +20,19 @@ pub fn text_places(
     alloc: Global,
     table: &KeyTable,
     name: &[u8],
-    steps: &mut Meter,
+    meter: &mut Meter,
 ) -> Result<Found, OutOfMemory>
     // It is a table.
     requires { IsTable table.now }
     // They are of just the rules of the keys that the name's endings and the whole name have.
     ensures near { IfOk result (λ places. AreSortedPlaces (IsEndKey table.now.tree (spelled name.now))
         table.now.keys.items places.items) }
-    // At most two nodes are counted for each byte of the name, three, and one for each place, however many rules there are.
-    ensures steps { IfOk result (λ places. steps.new.nodes ≤ steps.old.nodes + length places.items + 2 * length name.now + 3) }
+    // At most two nodes are counted for each byte of the name, three, and one for each of these places.
+    ensures steps { CountsPlaces (IsEndKey table.now.tree (spelled name.now)) table.now.keys.items
+        meter.old.nodes (2 * length name.now + 3) meter.new.nodes }
 {
     let mut found = SmallVec::new(alloc);
-    push_endings(&mut found, table, name, steps)?;
+    push_endings(&mut found, table, name, meter)?;
     in_order(&mut found);
     Ok(found)
 }
@@ -41,17 +42,17 @@ pub fn front_places(
     alloc: Global,
     table: &KeyTable,
     name: &[u8],
-    steps: &mut Meter,
+    meter: &mut Meter,
 ) -> Result<Found, OutOfMemory>
     // It is a table.
     requires { IsTable table.now }
     // They are of just the rules of these two keys.
     ensures near { IfOk result (λ places. AreSortedPlaces (Fronts name.now) table.now.keys.items places.items) }
-    // Two nodes are counted at most, and one for each place.
-    ensures steps { IfOk result (λ places. steps.new.nodes ≤ steps.old.nodes + length places.items + 2) }
+    // Two nodes are counted at most, and one for each of these places.
+    ensures steps { CountsPlaces (Fronts name.now) table.now.keys.items meter.old.nodes 2 meter.new.nodes }
 {
     let mut found = SmallVec::new(alloc);
-    push_fronts(&mut found, table, name, steps)?;
+    push_fronts(&mut found, table, name, meter)?;
     in_order(&mut found);
     Ok(found)
 }
@@ -61,19 +62,20 @@ pub fn all_places(
     alloc: Global,
     table: &KeyTable,
     name: &[u8],
-    steps: &mut Meter,
+    meter: &mut Meter,
 ) -> Result<Found, OutOfMemory>
     // It is a table.
     requires { IsTable table.now }
     // They are of just the rules of all keys that the name asks for.
     ensures near { IfOk result (λ places. AreSortedPlaces (λ key. IsEndKey table.now.tree (spelled name.now) key
         ⊎ Fronts name.now key) table.now.keys.items places.items) }
-    // At most two nodes are counted for each byte of the name, five, and one for each place, however many rules there are.
-    ensures steps { IfOk result (λ places. steps.new.nodes ≤ steps.old.nodes + length places.items + 2 * length name.now + 5) }
+    // At most two nodes are counted for each byte of the name, five, and one for each of these places.
+    ensures steps { CountsPlaces (λ key. IsEndKey table.now.tree (spelled name.now) key ⊎ Fronts name.now key)
+        table.now.keys.items meter.old.nodes (2 * length name.now + 5) meter.new.nodes }
 {
     let mut found = SmallVec::new(alloc);
-    push_endings(&mut found, table, name, steps)?;
-    push_fronts(&mut found, table, name, steps)?;
+    push_endings(&mut found, table, name, meter)?;
+    push_fronts(&mut found, table, name, meter)?;
     in_order(&mut found);
     Ok(found)
 }
@@ -94,14 +96,15 @@ fn push_fronts(
     found: &mut Found,
     table: &KeyTable,
     name: &[u8],
-    steps: &mut Meter,
+    meter: &mut Meter,
 ) -> Result<(), OutOfMemory>
     requires { IsTable table.now }
     ensures gathers { OnOk result (GathersPlaces (Fronts name.now) table.now.keys.items found.old.items found.new.items) }
-    ensures steps { OnOk result (steps.new.nodes + length found.old.items ≤ steps.old.nodes + length found.new.items + 2) }
+    ensures adds { AddsPlaces (Fronts name.now) table.now.keys.items found.old.items found.new.items }
+    ensures steps { meter.new.nodes + length found.old.items ≤ meter.old.nodes + length found.new.items + 2 }
 {
-    push_key(found, table, ANY_NAME, steps)?;
-    push_front(found, table, name, steps)?;
+    push_key(found, table, ANY_NAME, meter)?;
+    push_front(found, table, name, meter)?;
     Ok(())
 }
 
@@ -110,17 +113,18 @@ fn push_front(
     found: &mut Found,
     table: &KeyTable,
     name: &[u8],
-    steps: &mut Meter,
+    meter: &mut Meter,
 ) -> Result<(), OutOfMemory>
     requires { IsTable table.now }
     ensures gathers { OnOk result (GathersPlaces (λ key. (key < 256) × Begins name.now key) table.now.keys.items found.old.items found.new.items) }
-    ensures steps { OnOk result (steps.new.nodes + length found.old.items ≤ steps.old.nodes + length found.new.items + 1) }
+    ensures adds { AddsPlaces (λ key. (key < 256) × Begins name.now key) table.now.keys.items found.old.items found.new.items }
+    ensures steps { meter.new.nodes + length found.old.items ≤ meter.old.nodes + length found.new.items + 1 }
 {
     if name.len() == 0 {
         return Ok(());
     }
     let key = usize::from(as_compared(false, name[0]));
-    push_key(found, table, key, steps)?;
+    push_key(found, table, key, meter)?;
     Ok(())
 }
 
@@ -130,16 +134,17 @@ fn push_key(
     found: &mut Found,
     table: &KeyTable,
     key: usize,
-    steps: &mut Meter,
+    meter: &mut Meter,
 ) -> Result<(), OutOfMemory>
     requires table { IsTable table.now }
     requires key { key < node_key (length table.now.tree.starts.items) }
     ensures walks { OnOk result (Walks table.now.keys.items key found.old.items found.new.items) }
-    ensures steps { OnOk result (steps.new.nodes + length found.old.items ≤ steps.old.nodes + length found.new.items + 1) }
+    ensures adds { AddsPlaces (λ other. other ≡ key) table.now.keys.items found.old.items found.new.items }
+    ensures steps { meter.new.nodes + length found.old.items ≤ meter.old.nodes + length found.new.items + 1 }
 {
     // Most nodes have no rule.
     if table.chains.lasts[key] == 0 {
-        steps.add_node();
+        meter.add_node();
         return Ok(());
     }
     push_chain(
@@ -148,7 +153,7 @@ fn push_key(
         &table.chains.lasts,
         &table.chains.olders,
         key,
-        steps,
+        meter,
     )
 }
 
@@ -157,29 +162,30 @@ fn push_endings(
     found: &mut Found,
     table: &KeyTable,
     name: &[u8],
-    steps: &mut Meter,
+    meter: &mut Meter,
 ) -> Result<(), OutOfMemory>
     requires { IsTable table.now }
     ensures gathers { OnOk result (GathersPlaces (IsEndKey table.now.tree (spelled name.now))
         table.now.keys.items found.old.items found.new.items) }
-    ensures steps { OnOk result (steps.new.nodes + length found.old.items ≤ steps.old.nodes + length found.new.items + 2 * length name.now + 3) }
+    ensures adds { AddsPlaces (IsEndKey table.now.tree (spelled name.now)) table.now.keys.items found.old.items found.new.items }
+    ensures steps { meter.new.nodes + length found.old.items ≤ meter.old.nodes + length found.new.items + 2 * length name.now + 3 }
 {
-    push_key(found, table, FIRST_NODE, steps)?;
+    push_key(found, table, FIRST_NODE, meter)?;
     let mut at = 0;
     let mut left = name.len();
     while left > 0 {
         left -= 1;
-        steps.add_node();
+        meter.add_node();
         at = next_of(&table.tree, at, symbol_of(name[left]));
         if at == 0 {
             return Ok(());
         }
-        push_key(found, table, at + FIRST_NODE, steps)?;
+        push_key(found, table, at + FIRST_NODE, meter)?;
     }
-    steps.add_node();
+    meter.add_node();
     let whole = next_of(&table.tree, at, BEGIN);
     if whole > 0 {
-        push_key(found, table, whole + FIRST_NODE, steps)?;
+        push_key(found, table, whole + FIRST_NODE, meter)?;
     }
     Ok(())
 }

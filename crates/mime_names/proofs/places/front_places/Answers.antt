@@ -1,19 +1,19 @@
-use Rattle.std.proofs.Common.{length, ap, arith}
-use Rattle.std.proofs.lemmas.List.Sorted.{length_permutation}
 use Rattle.mime_names.specs.Keys.{Fronts}
-use Rattle.mime_names.proofs.PlaceLemmas.{sorted_places}
+use Rattle.mime_names.proofs.PlaceLemmas.{counts_places, sorted_places}
 use Rattle.mime_names.proofs.places.front_places.Goals as goal
 
 pub returns-clause-near : goal.returns-clause-near
 returns-clause-near c =
     sorted_places (Fronts c.args.name.now) c.args.table.now.keys.items
-    _ c.push_fronts.new.found.items c.in_order.new.places.items c.new-found.ensures.items c.in_ok-push_fronts.ensures.gathers c.in_order.ensures.permutation c.in_order.ensures.sorted
+    _ c.push_fronts.new.found.items c.in_order.new.places.items c.new-found.ensures.items c.in_ok-push_fronts.ensures.gathers c.push_fronts.ensures.adds
+    c.in_order.ensures.permutation c.in_order.ensures.sorted
 
 pub returns-clause-steps : goal.returns-clause-steps
 returns-clause-steps c =
-    omega (
-      arith,
-      c.in_ok-push_fronts.ensures.steps,
-      ap length c.new-found.ensures.items,
-      length_permutation c.push_fronts.new.found.items c.in_order.new.places.items c.in_order.ensures.permutation,
-    )
+    counts_places (Fronts c.args.name.now) c.args.table.now.keys.items _ c.push_fronts.new.found.items c.args.meter.now.nodes 2 c.push_fronts.new.meter.nodes
+    c.new-found.ensures.items c.push_fronts.ensures.adds c.push_fronts.ensures.steps
+
+pub returns-in_err-push_fronts-clause-steps : goal.returns-in_err-push_fronts-clause-steps
+returns-in_err-push_fronts-clause-steps c =
+    counts_places (Fronts c.args.name.now) c.args.table.now.keys.items _ c.push_fronts.new.found.items c.args.meter.now.nodes 2 c.push_fronts.new.meter.nodes
+    c.new-found.ensures.items c.push_fronts.ensures.adds c.push_fronts.ensures.steps

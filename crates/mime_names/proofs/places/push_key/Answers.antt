@@ -1,4 +1,4 @@
-use Rattle.std.proofs.Common.{◌∙◌, inl, get_or, ap, arith}
+use Rattle.std.proofs.Common.{◌∙◌, get_or, ap, arith}
 use Rattle.std.proofs.lemmas.List.{get_or_default}
 use Rattle.mime_names.proofs.places.push_key.Goals as goal
 
@@ -9,6 +9,4 @@ returns-then-index-eq0-clause-walks c = record {
       (let lasts = c.args.table.now.chains.lasts.items in
       let none = c.index.ensures ∙ get_or_default lasts c.args.key c.index.result.now 0 (omega (arith, c.requires.key, c.requires.table.room)) in
       absurd (omega (arith, c.requires.table.chained.firsts p below, ap (λ key. get_or lasts key 0) is, none, c.if-index-eq0.true)));
-  only = λ p has. inl has;
-  below = λ old. old;
 }

@@ -1,0 +1,55 @@
+-- Worked rows of the rules near a name, which compute.
+use Rattle.std.specs.Prelude.{◌≡◌, ℕ, ◌+◌, false, refl, codes, List, [], ◌∷◌}
+use Rattle.mime_base.specs.Kept.{class_of}
+use Rattle.mime_base.specs.declared.database.rule.GlobRule.{GlobRule}
+use Rattle.mime_names.specs.Near.{near_nodes, near_rules, near_texts}
+
+-- a rule of a pattern
+abbrev rule : List ℕ → GlobRule
+rule pattern = record { weight = 50; kind = codes "t/t"; pattern = pattern; cased = false }
+
+-- a literal, two endings, and three general patterns, of which the last may match any name
+abbrev six : List GlobRule
+six = rule (codes "makefile") ∷ rule (codes "*.c") ∷ rule (codes "*.tar.gz") ∷ rule (codes "m[ak]*") ∷ rule (codes "readme.*") ∷ rule (codes "*.[ch]")
+    ∷ []
+
+-- the ending, and the pattern that begins with a star
+near_ending : near_rules (codes "a.c") six ≡ 2
+unfolding class_of
+near_ending = refl
+
+near_ending_alone : near_texts (codes "a.c") six ≡ 1
+unfolding class_of
+near_ending_alone = refl
+
+-- capitals are alike, and a pattern of the same first byte is near though it doesn't match
+near_capitals : near_rules (codes "MAKEFILE.C") six ≡ 3
+unfolding class_of
+near_capitals = refl
+
+-- a name doesn't end with more than itself
+near_part_of_ending : near_texts (codes "a.gz") six ≡ 0
+unfolding class_of
+near_part_of_ending = refl
+
+-- a space has the symbol that begins a name
+near_after_space : near_texts (codes "a makefile") six ≡ 1
+unfolding class_of
+near_after_space = refl
+
+near_of_no_name : near_rules [] six ≡ 1
+unfolding class_of
+near_of_no_name = refl
+
+near_of_no_rules : near_rules (codes "makefile") [] ≡ 0
+near_of_no_rules = refl
+
+-- what is counted for nothing, and what one byte or one rule more allows
+nodes_of_nothing : near_nodes 0 0 ≡ 6
+nodes_of_nothing = refl
+
+nodes_of_a_byte : near_nodes 1 0 ≡ 6 + 3
+nodes_of_a_byte = refl
+
+nodes_of_a_rule : near_nodes 0 1 ≡ 6 + 1
+nodes_of_a_rule = refl
