@@ -6,3 +6,4 @@ pub mod TopLines
 pub mod NotedPairs
 pub mod FoundLines
 pub mod Chains
+pub mod IndexNodes

@@ -37,5 +37,6 @@ pub mod Heads
 pub mod Pairs
 pub mod Tables
 pub mod Indexed
+pub mod IndexNodes
 pub mod Paid
 pub mod Rows

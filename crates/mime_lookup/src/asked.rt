@@ -3,7 +3,7 @@
 //! Whoever answers it says which database that is: `lists` tries every rule, line and pair of one, `indexed` looks
 //! where an index says. The order itself is in `checking`, and what a content is sniffed as in `sniff`.
 
-ghost use Rattle.std.specs.Prelude.{◌≡◌, ◌<◌, IfOk};
+ghost use Rattle.std.specs.Prelude.{◌≡◌, ◌+◌, ◌<◌, ◌≤◌, ℕ, List, IfOk};
 ghost use Rattle.std.specs.List.{All};
 ghost use Rattle.mime_base.specs.Database.{PlainDatabase, pairs_of};
 ghost use Rattle.mime_base.specs.Database.Subclass.{resolved};
@@ -22,6 +22,12 @@ pub trait Asked<'a> {
     // The database.
     ghost plain: { Self → PlainDatabase };
 
+    // The nodes of an index that the types of the kept rules of a name cost at most.
+    ghost kept_nodes: { Self → List ℕ → ℕ };
+
+    // And those of all rules that match it.
+    ghost all_nodes: { Self → List ℕ → ℕ };
+
     /// The types of the rules that are kept of a name, each after one alias step.
     fn kept_kinds(
         &self,
@@ -32,8 +38,8 @@ pub trait Asked<'a> {
         // These are the types of the rules that are kept of the name, each after one alias step.
         ensures kept { IfOk result (λ kinds. kinds_of kinds.items
             ≡ kept (pairs_of (plain self.now)) (plain self.now).rules name.now) }
-        // No record of a cache is visited.
-        ensures nodes { meter.new.nodes ≡ meter.old.nodes };
+        // No more nodes are counted, and no record of a cache is visited.
+        ensures nodes { meter.new.nodes ≤ meter.old.nodes + kept_nodes self.now name.now };
 
     /// The types of all rules that match a name, by falling rank, each after one alias step.
     fn candidate_kinds(
@@ -45,8 +51,8 @@ pub trait Asked<'a> {
         // These are the types of all rules that match the name, each after one alias step.
         ensures candidates { IfOk result (λ kinds. kinds_of kinds.items
             ≡ candidates (pairs_of (plain self.now)) (plain self.now).rules name.now) }
-        // No record of a cache is visited.
-        ensures nodes { meter.new.nodes ≡ meter.old.nodes };
+        // No more nodes are counted, and no record of a cache is visited.
+        ensures nodes { meter.new.nodes ≤ meter.old.nodes + all_nodes self.now name.now };
 
     /// The type and the priority of the first section with a line of indent 0 that holds for a content.
     fn first_section(

@@ -3,7 +3,7 @@
 //!
 //! It is the same whoever answers what is asked, by trying all of a database or by an index of it.
 
-ghost use Rattle.std.specs.Prelude.{◌≡◌, ℕ, ◌<◌, ◌≤◌, if◌then◌else◌, length, List, Option, None, Some};
+ghost use Rattle.std.specs.Prelude.{◌≡◌, ℕ, ◌+◌, ◌<◌, ◌≤◌, true, if◌then◌else◌, length, List, Option, None, Some};
 ghost use Rattle.std.specs.Prelude.{IfErr, IfOk, IfSome};
 ghost use Rattle.mime_base.specs.Database.{PlainDatabase, pairs_of};
 ghost use Rattle.mime_base.specs.declared.magic.host.Host.{Host};
@@ -12,8 +12,10 @@ ghost use Rattle.mime_lookup.specs.CheckingOrder.{IsSniffed, are_one_type, asked
 ghost use Rattle.mime_lookup.specs.CheckingOrder.{has_magic, read_limit, types_before};
 ghost use Rattle.mime_lookup.specs.Choice.{ChoosesAmong};
 ghost use Rattle.mime_lookup.specs.Content.{known_content};
+ghost use Rattle.mime_lookup.specs.IndexNodes.{nodes_before, order_nodes};
 ghost use Rattle.mime_lookup.specs.LookUps.{ChoosesSome, IsPlainAnswer, cause_in, meter_in, name_too_long, read_in};
 ghost use Rattle.mime_lookup.specs.Question.{ChoosesFor, ReadsFor};
+ghost use Rattle.mime_lookup.specs.declared.order.Order.TheVariants.{ContentOnly, GlobsFirst};
 ghost use Rattle.mime_lookup.specs.Reads.{AsksUnless, IsReadOrMemory, Reads, UsesReader};
 
 use crate::answer::Answer;
@@ -53,8 +55,9 @@ pub fn look_up_over<'a, A: Asked<'a>, R: Content>(
     // It asks its reader only where the globs do not suffice.
     ensures asks { AsksUnless R.health (globs_suffice (A.plain database.now) name.now order)
         content.old content.new (cause_in result) }
-    // No record of a cache is visited.
-    ensures nodes { (meter_in result).nodes ≡ 0 }
+    // Of an index no more nodes are counted than the order allows, and no record of a cache is visited.
+    ensures nodes { (meter_in result).nodes ≤ order_nodes order (globs_suffice (A.plain database.now) name.now order)
+        (A.kept_nodes database.now name.now) (A.all_nodes database.now name.now) }
 {
     let mut read = 0;
     let mut meter = Meter::new();
@@ -89,8 +92,10 @@ fn kind_of<'a, A: Asked<'a>, R: Content>(
     // It takes no more of its reader than magic and the test for text can look at, and asks it only where the globs do not suffice.
     ensures uses { UsesReader R.remaining R.tally R.health (read_limit (A.plain database.now))
         (globs_suffice (A.plain database.now) question.now.name.now question.now.order) content.old content.new read.new result }
-    // No record of a cache is visited.
-    ensures nodes { meter.new.nodes ≡ meter.old.nodes }
+    // Of an index no more nodes are counted than the order allows.
+    ensures nodes { meter.new.nodes ≤ meter.old.nodes + order_nodes question.now.order
+        (globs_suffice (A.plain database.now) question.now.name.now question.now.order)
+        (A.kept_nodes database.now question.now.name.now) (A.all_nodes database.now question.now.name.now) }
 {
     database.keeps_limits();
     let named = named_kinds(alloc, database, question, meter)?;
@@ -117,8 +122,9 @@ fn named_kinds<'a, A: Asked<'a>>(
     // These are the types that the order asks first.
     ensures named { IfOk result (λ kinds. kinds_of kinds.items
         ≡ types_before (A.plain database.now) question.now.name.now question.now.order) }
-    // No record of a cache is visited.
-    ensures nodes { meter.new.nodes ≡ meter.old.nodes }
+    // Of an index no more nodes are counted than for these.
+    ensures nodes { meter.new.nodes ≤ meter.old.nodes + nodes_before question.now.order
+        (A.kept_nodes database.now question.now.name.now) (A.all_nodes database.now question.now.name.now) }
 {
     match question.order {
         Order::GlobsFirst => database.kept_kinds(alloc, question.name, meter),
@@ -148,8 +154,10 @@ fn are_one_type(kinds: &[&[u8]]) -> bool
 #[tactic(auto, unfolding(crate::specs::CheckingOrder::before_globs))]
 fn precedes_globs(order: Order, sniffed: &Sniffed<'_>) -> bool
     // Where it says so what was sniffed comes before the globs, and else nothing does, whichever database it was sniffed by.
-    ensures { (b : PlainDatabase) (content : Option (List ℕ)) (host : Host) → IsSniffed b content host sniffed.now
+    ensures before { (b : PlainDatabase) (content : Option (List ℕ)) (host : Host) → IsSniffed b content host sniffed.now
         → before_globs b content host order ≡ (if result then Some sniffed.now.kind.now else None) }
+    // Where the content alone is asked it always says so.
+    ensures alone { order ≡ ContentOnly → result ≡ true }
 {
     match order {
         Order::GlobsFirst | Order::AllGlobs => false,
@@ -175,8 +183,10 @@ fn asked_kinds<'a, A: Asked<'a>>(
     ensures asked { (content : Option (List ℕ)) → by_magic ≡ has_magic (A.plain database.now) content question.now.host
         → IfOk result (λ asked. kinds_of asked.items
         ≡ asked_types (A.plain database.now) question.now.name.now content question.now.host question.now.order) }
-    // No record of a cache is visited.
-    ensures nodes { meter.new.nodes ≡ meter.old.nodes }
+    // Of an index no more nodes are counted than for the kept rules.
+    ensures nodes { meter.new.nodes ≤ meter.old.nodes + A.kept_nodes database.now question.now.name.now }
+    // Where these were asked first they are not asked again.
+    ensures once { question.now.order ≡ GlobsFirst → meter.new.nodes ≡ meter.old.nodes }
 {
     match question.order {
         Order::GlobsFirst => Ok(named),

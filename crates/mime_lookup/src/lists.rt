@@ -76,6 +76,10 @@ pub struct Lists<'a> {
 impl<'a> Asked<'a> for Lists<'a> {
     ghost plain = { λ lists. plain_database lists.database.now };
 
+    ghost kept_nodes = { λ lists name. 0 };
+
+    ghost all_nodes = { λ lists name. 0 };
+
     #[tactic(auto, unfolding(crate::specs::Choice::kept))]
     fn kept_kinds(
         &self,

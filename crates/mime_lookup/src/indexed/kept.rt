@@ -1,9 +1,10 @@
 //! The types of the rules that are kept of a name.
 
-ghost use Rattle.std.specs.Prelude.{◌≡◌, IfOk};
+ghost use Rattle.std.specs.Prelude.{◌≡◌, ◌+◌, ◌≤◌, IfOk};
 ghost use Rattle.mime_base.specs.Database.{pairs_of, plain_database};
 ghost use Rattle.mime_lookup.specs.Ancestry.{kinds_of};
 ghost use Rattle.mime_lookup.specs.Choice.{kept};
+ghost use Rattle.mime_lookup.specs.IndexNodes.{kept_nodes};
 
 use crate::asked::Asked;
 use crate::indexed::IndexedDatabase;
@@ -20,8 +21,8 @@ pub fn kept_kinds<'a>(
 ) -> Result<Vec<&'a [u8]>, OutOfMemory>
     // These are the types of the rules that are kept of the name, each after one alias step.
     ensures kept { IfOk result (λ kinds. kinds_of kinds.items ≡ kept (pairs_of (plain_database index.now)) index.now.rules.items name.now) }
-    // No record of a cache is visited.
-    ensures nodes { meter.new.nodes ≡ meter.old.nodes }
+    // No more nodes are counted than the name's length and the rules near it allow.
+    ensures nodes { meter.new.nodes ≤ meter.old.nodes + kept_nodes index.now.rules.items name.now }
 {
     index.keeps_limits();
     if index.names.is_mostly_general() {

@@ -4,6 +4,7 @@ ghost use Rattle.std.specs.Prelude.{◌≡◌, ◌<◌, ◌≤◌, length, IfErr
 ghost use Rattle.mime_base.specs.Database.{plain_database};
 ghost use Rattle.mime_lookup.specs.CheckingOrder.{globs_suffice, read_limit};
 ghost use Rattle.mime_lookup.specs.Content.{known_content};
+ghost use Rattle.mime_lookup.specs.IndexNodes.{all_nodes, kept_nodes, order_nodes};
 ghost use Rattle.mime_lookup.specs.LookUps.{ChoosesSome, IsPlainAnswer, cause_in, meter_in, name_too_long, read_in};
 ghost use Rattle.mime_lookup.specs.Reads.{AsksUnless, IsReadOrMemory, Reads};
 
@@ -31,8 +32,10 @@ use std::alloc::Global;
 /// match give one type.
 ///
 /// A name of more than 4,096 bytes is [`Cause::NameTooLong`], before anything else. [`Cause::Read`]
-/// comes with a failed read and with the 1,001st interruption. The meter counts what matching
-/// compares, and each part of the index that is compared as a byte, with no promised bound, and no record.
+/// comes with a failed read and with the 1,001st interruption. The meter counts each step in the index of
+/// names as a node, and no record of a cache: at most three for each byte of the name, six, and one for each
+/// rule near it, however many rules there are; under [`Order::AllGlobs`] twice as many. As bytes it counts what
+/// matching compares, and each part of the index of magic, with no promised bound.
 pub fn look_up_indexed<'a, R: Content>(
     alloc: Global,
     index: &IndexedDatabase<'a>,
@@ -57,14 +60,19 @@ pub fn look_up_indexed<'a, R: Content>(
     // It asks its reader only where the globs do not suffice.
     ensures asks { AsksUnless R.health (globs_suffice (plain_database index.now) name.now order)
         content.old content.new (cause_in result) }
-    // No record of a cache is visited.
-    ensures nodes { (meter_in result).nodes ≡ 0 }
+    // Of the index no more nodes are counted than a name's length and the rules near it allow, and no record of a cache is visited.
+    ensures nodes { (meter_in result).nodes ≤ order_nodes order (globs_suffice (plain_database index.now) name.now order)
+        (kept_nodes index.now.rules.items name.now) (all_nodes index.now.rules.items name.now) }
 {
     look_up_over(alloc, index, name, content, host, order)
 }
 
 impl<'a> Asked<'a> for IndexedDatabase<'a> {
     ghost plain = { plain_database };
+
+    ghost kept_nodes = { λ database. kept_nodes database.rules.items };
+
+    ghost all_nodes = { λ database. all_nodes database.rules.items };
 
     // Always inlined, so that the types are not moved.
     #[inline(always)]

@@ -1,8 +1,9 @@
-use Rattle.std.proofs.Common.{◌≡◌, ◌∙◌, ℕ, Option, true, false, List, Some, ap, sym}
+use Rattle.std.proofs.Common.{◌≡◌, ◌∙◌, ℕ, Option, true, false, List, Some, ap, sym, true≢false, arith}
 use Rattle.std.proofs.lemmas.Option.{IfSome_then}
 use denote.Bor.{Bor}
 use Rattle.mime_lookup.specs.Ancestry.{kinds_of}
-use Rattle.mime_lookup.specs.CheckingOrder.{IsSniffed, are_one_type}
+use Rattle.mime_lookup.specs.CheckingOrder.{IsSniffed, are_one_type, globs_suffice}
+use Rattle.mime_lookup.proofs.IndexLemmas.IndexNodes.{order-nodes}
 use Rattle.mime_lookup.proofs.OrderLemmas.Answering.{first_text}
 use Rattle.mime_lookup.proofs.OrderLemmas.TypesBefore.{by_asked_types, by_one_before, by_sniffed, suffice_before}
 use Rattle.mime_lookup.proofs.LookUpLemmas.LookUps.{front_read, none_read}
@@ -67,7 +68,7 @@ returns-then-precedes_globs-clause-answers g c =
     let sniffed = c.in_ok-sniffed.ensures.answers in
     let chosen = λ (content : Option (List ℕ)) (is : IsSniffed b content question.host c.in_ok-sniffed.sniffed).
     by_sniffed b question.name.now content question.host question.order c.in_ok-sniffed.sniffed.kind.now
-    (rw c.if-precedes_globs.true at (c.precedes_globs.ensures b content question.host is)) in
+    (rw c.if-precedes_globs.true at (c.precedes_globs.ensures.before b content question.host is)) in
     record {
       chosen = IfSome_then _ sniffed.sniffed chosen;
       some = (sniffed.some.0, sniffed.some.1, chosen sniffed.some.0 sniffed.some.2);
@@ -91,7 +92,7 @@ returns-clause-answers g c =
     let chosen = λ (content : Option (List ℕ)) (is : IsSniffed b content question.host c.in_ok-sniffed.sniffed).
     by_asked_types b question.name.now content question.host question.order (kinds_of c.in_ok-asked.asked.items)
     c.in_ok-sniffed.sniffed.kind.now c.in_ok-kind.kind.now
-    (rw c.if-precedes_globs.false at (c.precedes_globs.ensures b content question.host is))
+    (rw c.if-precedes_globs.false at (c.precedes_globs.ensures.before b content question.host is))
     (c.in_ok-asked.ensures.asked content is.magic) is.kind
     (rw c.deref-2.ensures.value at c.in_ok-kind.ensures.chosen) in
     record {
@@ -107,3 +108,46 @@ returns-clause-read g c =
     front_read (g.A.Asked.plain c.args.database.now) c.args.question.now.name.now c.args.question.now.order _ _
     (suffice_before _ _ c.args.question.now.order _ false c.in_ok-named.ensures.named several)
     c.in_ok-sniffed.ensures.read
+
+-- the types that are asked cost no more
+pub returns-in_err-asked-clause-nodes : goal.returns-in_err-asked-clause-nodes
+returns-in_err-asked-clause-nodes g c =
+    let question = c.args.question.now in
+    let several : are_one_type (kinds_of c.in_ok-named.named.items) ≡ false =
+    rw c.deref.ensures.value at (sym c.are_one_type.ensures ∙ c.if-are_one_type.false) in
+    order-nodes question.order (globs_suffice (g.A.Asked.plain c.args.database.now) question.name.now question.order)
+    (g.A.Asked.kept_nodes c.args.database.now question.name.now) (g.A.Asked.all_nodes c.args.database.now question.name.now)
+    c.args.meter.now.nodes c.sniff_content.new.meter.nodes c.asked_kinds.new.meter.nodes
+    (suffice_before (g.A.Asked.plain c.args.database.now) question.name.now question.order _ false c.in_ok-named.ensures.named several)
+    (λ alone. true≢false (sym (c.precedes_globs.ensures.alone alone) ∙ c.if-precedes_globs.false))
+    (omega (arith, c.named_kinds.ensures.nodes, c.sniff_content.ensures.nodes)) c.asked_kinds.ensures.nodes c.asked_kinds.ensures.once
+
+-- and no more nodes are counted
+pub returns-in_err-kind-clause-nodes : goal.returns-in_err-kind-clause-nodes
+returns-in_err-kind-clause-nodes g c =
+    let question = c.args.question.now in
+    let several : are_one_type (kinds_of c.in_ok-named.named.items) ≡ false =
+    rw c.deref.ensures.value at (sym c.are_one_type.ensures ∙ c.if-are_one_type.false) in
+    let before =
+    order-nodes question.order (globs_suffice (g.A.Asked.plain c.args.database.now) question.name.now question.order)
+    (g.A.Asked.kept_nodes c.args.database.now question.name.now) (g.A.Asked.all_nodes c.args.database.now question.name.now)
+    c.args.meter.now.nodes c.sniff_content.new.meter.nodes c.asked_kinds.new.meter.nodes
+    (suffice_before (g.A.Asked.plain c.args.database.now) question.name.now question.order _ false c.in_ok-named.ensures.named several)
+    (λ alone. true≢false (sym (c.precedes_globs.ensures.alone alone) ∙ c.if-precedes_globs.false))
+    (omega (arith, c.named_kinds.ensures.nodes, c.sniff_content.ensures.nodes)) c.asked_kinds.ensures.nodes c.asked_kinds.ensures.once in
+    omega (arith, before, c.choose.ensures.nodes)
+
+-- and no more nodes are counted
+pub returns-clause-nodes : goal.returns-clause-nodes
+returns-clause-nodes g c =
+    let question = c.args.question.now in
+    let several : are_one_type (kinds_of c.in_ok-named.named.items) ≡ false =
+    rw c.deref.ensures.value at (sym c.are_one_type.ensures ∙ c.if-are_one_type.false) in
+    let before =
+    order-nodes question.order (globs_suffice (g.A.Asked.plain c.args.database.now) question.name.now question.order)
+    (g.A.Asked.kept_nodes c.args.database.now question.name.now) (g.A.Asked.all_nodes c.args.database.now question.name.now)
+    c.args.meter.now.nodes c.sniff_content.new.meter.nodes c.asked_kinds.new.meter.nodes
+    (suffice_before (g.A.Asked.plain c.args.database.now) question.name.now question.order _ false c.in_ok-named.ensures.named several)
+    (λ alone. true≢false (sym (c.precedes_globs.ensures.alone alone) ∙ c.if-precedes_globs.false))
+    (omega (arith, c.named_kinds.ensures.nodes, c.sniff_content.ensures.nodes)) c.asked_kinds.ensures.nodes c.asked_kinds.ensures.once in
+    omega (arith, before, c.choose.ensures.nodes)

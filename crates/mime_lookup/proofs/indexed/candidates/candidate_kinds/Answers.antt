@@ -4,6 +4,7 @@ use Rattle.mime_base.specs.Kept.{candidate_rules}
 use Rattle.mime_base.specs.declared.database.Database.{Database}
 use Rattle.mime_base.specs.declared.database.rule.GlobRule.{GlobRule}
 use Rattle.mime_lookup.specs.Indexed.{unaliased_rule}
+use Rattle.mime_lookup.proofs.IndexLemmas.IndexNodes.{all-nodes}
 use Rattle.mime_lookup.proofs.IndexLemmas.LentRules.{candidates-step}
 use Rattle.mime_lookup.proofs.indexed.candidates.candidate_kinds.Goals as goal
 
@@ -15,3 +16,17 @@ returns-clause-candidates c =
     ∙ ap kinds c.index.invariant.named.are
     ∙ ap (λ (d : Database). kinds (map (unaliased_rule (pairs_of (plain_database d)).aliases) d.rules.items)) c.index.view_is
     ∙ candidates-step (pairs_of (plain_database c.args.index.now)) c.args.index.now.rules.items name
+
+pub returns-in_err-kinds-clause-nodes : goal.returns-in_err-kinds-clause-nodes
+returns-in_err-kinds-clause-nodes c =
+    all-nodes (pairs_of (plain_database c.args.index.now)).aliases _ c.args.index.now.rules.items c.args.name.now
+    (c.index.invariant.named.are
+    ∙ ap (λ (d : Database). map (unaliased_rule (pairs_of (plain_database d)).aliases) d.rules.items) c.index.view_is)
+    c.args.meter.now.nodes c.candidate_kinds-2.new.meter.nodes c.candidate_kinds-2.ensures.near
+
+pub returns-clause-nodes : goal.returns-clause-nodes
+returns-clause-nodes c =
+    all-nodes (pairs_of (plain_database c.args.index.now)).aliases _ c.args.index.now.rules.items c.args.name.now
+    (c.index.invariant.named.are
+    ∙ ap (λ (d : Database). map (unaliased_rule (pairs_of (plain_database d)).aliases) d.rules.items) c.index.view_is)
+    c.args.meter.now.nodes c.candidate_kinds-2.new.meter.nodes c.candidate_kinds-2.ensures.near
