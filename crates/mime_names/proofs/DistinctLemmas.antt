@@ -1,5 +1,6 @@
 -- Numbers of a list, none twice, are no more than those of another list that has them all.
-use Rattle.std.proofs.Common.{◌≡◌, ◌≢◌, inl, inr, ℕ, zero, suc, ◌+◌, ◌<◌, ◌≤◌, ◌==◌, Bool, true, false, cond, List, [], ◌∷◌, length, get_or, map}
+use Rattle.std.proofs.Common.{◌≡◌, ◌≢◌, inl, inr, ℕ, zero, suc, ◌+◌, ◌<◌, ◌≤◌, ◌==◌, Bool, true, false, cond, List, [], ◌∷◌, length}
+use Rattle.std.proofs.Common.{get_or, map}
 use Rattle.std.proofs.Common.{refl, sym, ap, ◌∙◌, arith}
 use Rattle.std.specs.Cmp.{IsEquivalence}
 use Rattle.std.specs.List.{AllPairs, Contains, filter}
@@ -18,7 +19,8 @@ same x y = x == y
 same-laws : IsEquivalence same
 same-laws = record {
   refl = λ x. (Decides-eqb x x).1 refl;
-  symm = λ x y. same_from_decides (x == y) (y == x) (Decides-eqb x y) ((λ is. sym ((Decides-eqb y x).0 is)), (λ is. (Decides-eqb y x).1 (sym is)));
+  symm = λ x y. same_from_decides (x == y) (y == x) (Decides-eqb x y)
+      ((λ is. sym ((Decides-eqb y x).0 is)), (λ is. (Decides-eqb y x).1 (sym is)));
   congr = λ x y z is. ap (λ n. n == z) ((Decides-eqb x y).0 is);
 }
 
@@ -31,7 +33,8 @@ distinct-le xs ys once inside =
 -- what is left of a list by a test passes it, and was there
 pub filter-has : (test : ℕ → Bool) (xs : List ℕ) (q : ℕ) → Contains (filter test xs) q → Contains xs q × (test q ≡ true)
 filter-has test xs q has =
-    let both = sym (is_member-filter same-laws test q (λ x is. ap test ((Decides-eqb q x).0 is)) xs) ∙ (is_member-Decides Decides-eqb (filter test xs) q).1 has in
+    let both = sym (is_member-filter same-laws test q (λ x is. ap test ((Decides-eqb q x).0 is)) xs) ∙
+    (is_member-Decides Decides-eqb (filter test xs) q).1 has in
     let parts = and_parts (is_member same xs q) (test q) both in
     ((is_member-Decides Decides-eqb xs q).0 parts.0, parts.1)
 

@@ -55,7 +55,8 @@ kept-none patterns found kinds is none =
     (sym (length-map (of_greatest rank found) (λ (rule : IndexedRule). rule.kind)) ∙ sym (ap length is) ∙ none))
 
 -- filtering values is filtering by value
-pub filter-map : {X Y : Type 0} (value : X → Y) (p : Y → Bool) (xs : List X) → filter p (map value xs) ≡ map value (filter (λ x. p (value x)) xs)
+pub filter-map : {X Y : Type 0} (value : X → Y) (p : Y → Bool) (xs : List X) →
+    filter p (map value xs) ≡ map value (filter (λ x. p (value x)) xs)
 filter-map value p [] = refl
 filter-map {X} {Y} value p (x ∷ xs) = by_cases (p (value x)) (filter-map value p xs)
   where
@@ -126,7 +127,8 @@ module _ (patterns : List ℕ) (rules : List IndexedRule) (name : List ℕ) wher
         ∙ ap (map (λ (rule : GlobRule). rule.kind)) (sym (of_greatest-map rank_of_rule (plain patterns) found))
 
     -- the hits that are texts
-    pub texts-plain : filter is_text_rule (hits (rules_of_index patterns rules) name) ≡ map (plain patterns) (hits_of patterns (texts patterns) rules name)
+    pub texts-plain :
+        filter is_text_rule (hits (rules_of_index patterns rules) name) ≡ map (plain patterns) (hits_of patterns (texts patterns) rules name)
     texts-plain =
         ap (filter is_text_rule) hits-plain
         ∙ filter-map (plain patterns) is_text_rule (hits_of patterns (every patterns) rules name)

@@ -1,25 +1,26 @@
 -- The nodes that are counted for a name, by the rules near it.
 use Rattle.std.proofs.Common.{◌≡◌, ◌⊎◌, inl, inr, ℕ, ◌+◌, ◌*◌, ◌<◌, ◌≤◌, Bool, not, ◌&&◌, List, length, map, refl, sym, ap, ◌∙◌, arith}
-use Rattle.std.specs.List.{All, filter}
+use Rattle.std.specs.List.{filter}
 use Rattle.std.proofs.lemmas.List.{length-map}
 use Rattle.std.proofs.lemmas.List.Filters.{length-filter_both}
 use denote.Bor.{Bor}
 use Rattle.mime_base.specs.Kept.{hits, of_greatest, rank_of_rule}
 use Rattle.mime_base.specs.declared.database.rule.GlobRule.{GlobRule}
-use Rattle.mime_names.specs.Index.{rules_of_index}
-use Rattle.mime_names.specs.Keys.{Fronts, IsEndKey, IsTableOf}
+use Rattle.mime_names.specs.Index.{IsIndex, rules_of_index}
+use Rattle.mime_names.specs.Keys.{Fronts, IsEndKey}
 use Rattle.mime_names.specs.Near.{near_nodes, near_rule, near_rules, near_texts}
-use Rattle.mime_names.specs.Places.{CountsPlaces}
-use Rattle.mime_names.specs.Rules.{IsIndexedRule, every, hits_of, is_text_rule, others, plain, texts}
+use Rattle.mime_names.specs.Places.{AreNear, AreSortedPlaces, CountsPlaces}
+use Rattle.mime_names.specs.Rules.{every, hits_of, is_text_rule, others, plain, texts}
 use Rattle.mime_names.specs.Tree.{spelled}
 use Rattle.mime_names.specs.declared.indexed_rule.IndexedRule.{IndexedRule}
 use Rattle.mime_names.specs.declared.keys.KeyTable.{KeyTable}
 use Rattle.mime_names.proofs.CountLemmas.{count-fronts, count-places}
 use Rattle.mime_names.proofs.KeptLemmas.{filter-both, filter-map, kept-none, texts-plain}
-use Rattle.mime_names.proofs.TableLemmas.{ends-high, fronts-low, other-at, text-at}
+use Rattle.mime_names.proofs.TableLemmas.{ends-high, fronts-low, near-texts, other-at, text-at}
 
 -- values that pass are as many as what has them
-length-filter_map : {X Y : Type 0} (value : X → Y) (p : Y → Bool) (xs : List X) → length (filter p (map value xs)) ≡ length (filter (λ x. p (value x)) xs)
+length-filter_map : {X Y : Type 0} (value : X → Y) (p : Y → Bool) (xs : List X) →
+    length (filter p (map value xs)) ≡ length (filter (λ x. p (value x)) xs)
 length-filter_map value p xs = ap length (filter-map value p xs) ∙ length-map (filter (λ x. p (value x)) xs) value
 
 -- of the rules near a name the texts and all others
@@ -31,37 +32,45 @@ near-both name rules =
     let second = ap length (filter-both (λ (rule : GlobRule). not (is_text_rule rule)) (near_rule name) rules) in
     omega (arith, first, second, length-filter_both is_text_rule (λ (rule : GlobRule). not (is_text_rule rule)) (λ rule. refl) near)
 
-module _ (table : KeyTable) (patterns : List ℕ) (rules : List IndexedRule) (is : IsTableOf table patterns rules) (own : All (IsIndexedRule patterns) rules)
-    (name : List ℕ) (all : List GlobRule) (view : rules_of_index patterns rules ≡ all) where
-  -- how many of the index's rules pass
+module _ (patterns : List ℕ) (rules : List IndexedRule) (table : KeyTable) (is : IsIndex patterns rules table) (name : List ℕ)
+    (all : List GlobRule) (view : rules_of_index patterns rules ≡ all) where
+  -- the keys of the rules
+  abbrev keys : List ℕ
+  keys = table.keys.items
+
+  -- whether a key is that of one of the name's endings
+  abbrev Ends : ℕ → Type 0
+  Ends key = IsEndKey table.tree (spelled name) key
+
+  -- how many of the rules pass
   passing : (p : GlobRule → Bool) → length (filter p all) ≡ length (filter (λ rule. p (plain patterns rule)) rules)
   passing p = ap (λ rs. length (filter p rs)) (sym view) ∙ length-filter_map (plain patterns) p rules
 
   -- where the keys of endings are asked for
-  pub texts-nodes : (old new : ℕ) → CountsPlaces (IsEndKey table.tree (spelled name)) table.keys.items old (2 * length name + 3) new →
+  pub texts-nodes : (old new : ℕ) → CountsPlaces Ends keys old (2 * length name + 3) new →
       new + 2 ≤ old + near_nodes (length name) (near_texts name all)
   texts-nodes old new counted =
       let places =
-      count-places table patterns rules is own name (texts patterns) counted.places counted.below counted.once
+      count-places table patterns rules is.keyed is.own name (texts patterns) counted.places counted.below counted.once
       (λ p rule within here has. (
-        text-at table patterns rules is own name p rule within here (ends-high table.tree (spelled name) _ (counted.only p has)),
+        text-at table patterns rules is.keyed is.own name p rule within here (ends-high table.tree (spelled name) _ (counted.only p has)),
         inl (counted.only p has),
       )) in
       omega (arith, counted.steps, places, passing (λ rule. is_text_rule rule && near_rule name rule))
 
   -- these are no more than all rules allow
-  pub texts-near : (old new : ℕ) → CountsPlaces (IsEndKey table.tree (spelled name)) table.keys.items old (2 * length name + 3) new →
+  pub texts-near : (old new : ℕ) → CountsPlaces Ends keys old (2 * length name + 3) new →
       new ≤ old + near_nodes (length name) (near_rules name all)
   texts-near old new counted = omega (arith, texts-nodes old new counted, near-both name all)
 
   -- where then those of the front are
-  pub fronts-near : (old mid next new : ℕ) → CountsPlaces (IsEndKey table.tree (spelled name)) table.keys.items old (2 * length name + 3) mid →
-      next ≡ mid → CountsPlaces (Fronts name) table.keys.items next 2 new → new ≤ old + near_nodes (length name) (near_rules name all)
+  pub fronts-near : (old mid next new : ℕ) → CountsPlaces Ends keys old (2 * length name + 3) mid → next ≡ mid →
+      CountsPlaces (Fronts name) keys next 2 new → new ≤ old + near_nodes (length name) (near_rules name all)
   fronts-near old mid next new before none counted =
       let places =
-      count-fronts table patterns rules is own name (others patterns) counted.places counted.below counted.once
+      count-fronts table patterns rules is.keyed is.own name (others patterns) counted.places counted.below counted.once
       (λ p rule within here has. (
-        other-at table patterns rules is own name p rule within here (fronts-low name _ (counted.only p has)),
+        other-at table patterns rules is.keyed is.own name p rule within here (fronts-low name _ (counted.only p has)),
         inr (counted.only p has),
       )) (λ p has. fronts-low name _ (counted.only p has)) in
       omega (
@@ -75,24 +84,27 @@ module _ (table : KeyTable) (patterns : List ℕ) (rules : List IndexedRule) (is
       )
 
   -- where those of both are
-  pub every-near : (old new : ℕ) → CountsPlaces (λ key. IsEndKey table.tree (spelled name) key ⊎ Fronts name key) table.keys.items old (2 * length name + 5) new →
+  pub every-near : (old new : ℕ) → CountsPlaces (λ key. Ends key ⊎ Fronts name key) keys old (2 * length name + 5) new →
       new ≤ old + near_nodes (length name) (near_rules name all)
   every-near old new counted =
       let places =
-      count-places table patterns rules is own name (every patterns) counted.places counted.below counted.once
+      count-places table patterns rules is.keyed is.own name (every patterns) counted.places counted.below counted.once
       (λ p rule within here has. (refl, counted.only p has)) in
       omega (arith, counted.steps, places, passing (near_rule name))
 
-  -- no text matches where none is kept
-  pub texts-none : (kinds : List (Bor (List ℕ))) →
-      kinds ≡ map (λ rule. rule.kind) (of_greatest (λ rule. rank_of_rule (plain patterns rule)) (hits_of patterns (texts patterns) rules name)) →
+  -- no text matches where none is kept of those at the places of texts
+  pub texts-none : (places : List ℕ) → AreSortedPlaces Ends keys places → (kinds : List (Bor (List ℕ))) →
+      (AreNear patterns (texts patterns) rules name places →
+      kinds ≡ map (λ rule. rule.kind) (of_greatest (λ rule. rank_of_rule (plain patterns rule))
+      (hits_of patterns (texts patterns) rules name))) →
       length kinds ≡ 0 → 0 < length (filter is_text_rule (hits all name)) → ⊥
-  texts-none kinds kept none some =
-      let found = kept-none patterns (hits_of patterns (texts patterns) rules name) kinds kept none in
+  texts-none places sorted kinds kept none some =
+      let near = near-texts table patterns rules is.keyed is.own name places sorted in
+      let found = kept-none patterns (hits_of patterns (texts patterns) rules name) kinds (kept near) none in
       omega (
         arith,
         some,
         ap (λ rs. length (filter is_text_rule (hits rs name))) (sym view),
-        ap length (texts-plain patterns rules name own),
+        ap length (texts-plain patterns rules name is.own),
         ap (λ (rs : List IndexedRule). length (map (plain patterns) rs)) found,
       )

@@ -42,14 +42,16 @@ module _ (table : KeyTable) (patterns : List ℕ) (rules : List IndexedRule) (is
       ap of_texts indexed.class
 
   -- a key of a node is one of a text
-  pub text-at : (p : ℕ) (rule : IndexedRule) → p < length rules → rule ≡ get_or rules p rule → 257 ≤ get_or table.keys.items p 0 → texts patterns rule ≡ true
+  pub text-at : (p : ℕ) (rule : IndexedRule) → p < length rules → rule ≡ get_or rules p rule → 257 ≤ get_or table.keys.items p 0 →
+      texts patterns rule ≡ true
   text-at p rule within here high = elim (cases_Bool (texts patterns rule)) [
     | inl text ↦ text
     | inr other ↦ (let low = (is.keyed.each p rule within here).others (class-at p rule within here ∙ other) in absurd (omega (arith, low, high)))
   ]
 
   -- any other key is one of another rule
-  pub other-at : (p : ℕ) (rule : IndexedRule) → p < length rules → rule ≡ get_or rules p rule → get_or table.keys.items p 0 < 257 → others patterns rule ≡ true
+  pub other-at : (p : ℕ) (rule : IndexedRule) → p < length rules → rule ≡ get_or rules p rule → get_or table.keys.items p 0 < 257 →
+      others patterns rule ≡ true
   other-at p rule within here low = elim (cases_Bool (texts patterns rule)) [
     | inl text ↦ (let high = (is.keyed.each p rule within here).texts (class-at p rule within here ∙ text) in absurd (omega (arith, low, high)))
     | inr other ↦ ap not other

@@ -46,7 +46,8 @@ pub near-whole : (tree : Tree) → IsTree tree → (class : Class) (pattern name
 near-whole tree is Literal pattern name key low whole (inl (inl ends)) =
     let one : ends.1 ≡ whole.0 = omega (arith, ends.3, whole.1) in
     ends-so (0 ∷ spelled pattern) name (suc ends.0)
-    (is_at-text tree is (drop ends.0 (spelled name)) (0 ∷ spelled pattern) whole.0 (subst (IsAt tree (drop ends.0 (spelled name))) one ends.4) whole.2)
+    (is_at-text tree is (drop ends.0 (spelled name)) (0 ∷ spelled pattern) whole.0
+    (subst (IsAt tree (drop ends.0 (spelled name))) one ends.4) whole.2)
 near-whole tree is Literal pattern name key low whole (inl (inr all)) =
     let one : all.0 ≡ whole.0 = omega (arith, all.1, whole.1) in
     ends-so (0 ∷ spelled pattern) name 0
@@ -56,7 +57,8 @@ near-whole tree is Literal pattern name key low whole (inr (inr begins)) = absur
 near-whole tree is Suffix pattern name key low whole (inl (inl ends)) =
     let one : ends.1 ≡ whole.0 = omega (arith, ends.3, whole.1) in
     ends-so (spelled (drop 1 pattern)) name (suc ends.0)
-    (is_at-text tree is (drop ends.0 (spelled name)) (spelled (drop 1 pattern)) whole.0 (subst (IsAt tree (drop ends.0 (spelled name))) one ends.4) whole.2)
+    (is_at-text tree is (drop ends.0 (spelled name)) (spelled (drop 1 pattern)) whole.0
+    (subst (IsAt tree (drop ends.0 (spelled name))) one ends.4) whole.2)
 near-whole tree is Suffix pattern name key low whole (inl (inr all)) =
     let one : all.0 ≡ whole.0 = omega (arith, all.1, whole.1) in
     ends-so (spelled (drop 1 pattern)) name 0
@@ -88,7 +90,8 @@ node_of-is tree [] at is = is
 node_of-is tree (s ∷ rest) at is = sym is.3 ∙ ap (λ m. next_of tree m s) (node_of-is tree rest is.0 is.1)
 
 -- each node to which an ending leads has its key there, but for the first
-pub keys_on-has : (tree : Tree) (text : List ℕ) (k at : ℕ) → IsAt tree (drop k text) at → 0 < at → Contains (keys_on tree text) (node_key at)
+pub keys_on-has : (tree : Tree) (text : List ℕ) (k at : ℕ) → IsAt tree (drop k text) at → 0 < at →
+    Contains (keys_on tree text) (node_key at)
 keys_on-has tree [] zero at is some = absurd (omega (arith, is, some))
 keys_on-has tree [] (suc k) at is some = absurd (omega (arith, is, some))
 keys_on-has tree (s ∷ rest) zero at is some = (0, omega arith, ap node_key (sym (node_of-is tree (s ∷ rest) at is)))

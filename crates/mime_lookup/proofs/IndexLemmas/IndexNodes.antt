@@ -1,5 +1,6 @@
 -- The nodes of an index that a name costs: its rules' types went one alias step, which changes none; and those of each order.
-use Rattle.std.proofs.Common.{◌≡◌, ℕ, ◌+◌, ◌<◌, ◌≤◌, Bool, true, false, if◌then◌else◌, ◌&&◌, List, length, map, refl, sym, ap, subst, ◌∙◌, arith}
+use Rattle.std.proofs.Common.{◌≡◌, ℕ, ◌+◌, ◌<◌, ◌≤◌, Bool, true, false, if◌then◌else◌, ◌&&◌, List, length, map, refl, sym, ap, subst}
+use Rattle.std.proofs.Common.{◌∙◌, arith}
 use Rattle.std.specs.List.{filter}
 use Rattle.std.proofs.lemmas.Bool.{ltb-true}
 use Rattle.std.proofs.lemmas.List.{length-map}
@@ -14,9 +15,11 @@ use Rattle.mime_lookup.proofs.IndexLemmas.LentRules.{filter-map}
 use Rattle.mime_names.specs.Near.{near_nodes, near_rule, near_rules, near_texts}
 use Rattle.mime_names.specs.Rules.{is_text_rule}
 
-module _ (aliases : List (List ℕ × List ℕ)) (names rules : List GlobRule) (name : List ℕ) (are : names ≡ map (unaliased_rule aliases) rules) (old new : ℕ) where
+module _ (aliases : List (List ℕ × List ℕ)) (names rules : List GlobRule) (name : List ℕ)
+    (are : names ≡ map (unaliased_rule aliases) rules) (old new : ℕ) where
   -- a test that a rule's type is nothing to passes as many
-  passing : (p : GlobRule → Bool) → length (filter p (map (unaliased_rule aliases) rules)) ≡ length (filter (λ rule. p (unaliased_rule aliases rule)) rules)
+  passing : (p : GlobRule → Bool) →
+      length (filter p (map (unaliased_rule aliases) rules)) ≡ length (filter (λ rule. p (unaliased_rule aliases rule)) rules)
   passing p =
       ap length (filter-map (unaliased_rule aliases) p rules)
       ∙ length-map (filter (λ rule. p (unaliased_rule aliases rule)) rules) (unaliased_rule aliases)
@@ -33,7 +36,8 @@ module _ (aliases : List (List ℕ × List ℕ)) (names rules : List GlobRule) (
   hits-same : length (filter is_text_rule (hits names name)) ≡ length (filter is_text_rule (hits rules name))
   hits-same =
       ap (λ rs. length (filter is_text_rule (hits rs name))) are
-      ∙ ap (λ found. length (filter is_text_rule found)) (filter-map (unaliased_rule aliases) (λ rule. rule_matches rule.pattern rule.cased name) rules)
+      ∙ ap (λ found. length (filter is_text_rule found))
+      (filter-map (unaliased_rule aliases) (λ rule. rule_matches rule.pattern rule.cased name) rules)
       ∙ ap length (filter-map (unaliased_rule aliases) is_text_rule (hits rules name))
       ∙ length-map (filter is_text_rule (hits rules name)) (unaliased_rule aliases)
 

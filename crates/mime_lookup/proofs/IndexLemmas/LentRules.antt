@@ -15,7 +15,8 @@ use Rattle.mime_lookup.specs.Choice.{candidates, kept}
 use Rattle.mime_lookup.specs.Indexed.{unaliased_rule}
 
 -- filtering values is filtering by value
-pub filter-map : {X Y : Type 0} (value : X → Y) (p : Y → Bool) (xs : List X) → filter p (map value xs) ≡ map value (filter (λ x. p (value x)) xs)
+pub filter-map : {X Y : Type 0} (value : X → Y) (p : Y → Bool) (xs : List X) →
+    filter p (map value xs) ≡ map value (filter (λ x. p (value x)) xs)
 filter-map value p [] = refl
 filter-map {X} {Y} value p (x ∷ xs) = by_cases (p (value x)) (filter-map value p xs)
   where

@@ -10,7 +10,8 @@ rule pattern = record { weight = 50; kind = codes "t/t"; pattern = pattern; case
 
 -- a literal, two endings, and three general patterns, of which the last may match any name
 abbrev six : List GlobRule
-six = rule (codes "makefile") ∷ rule (codes "*.c") ∷ rule (codes "*.tar.gz") ∷ rule (codes "m[ak]*") ∷ rule (codes "readme.*") ∷ rule (codes "*.[ch]")
+six = rule (codes "makefile") ∷ rule (codes "*.c") ∷ rule (codes "*.tar.gz") ∷ rule (codes "m[ak]*") ∷ rule (codes "readme.*") ∷ rule
+    (codes "*.[ch]")
     ∷ []
 
 -- the ending, and the pattern that begins with a star

@@ -27,29 +27,38 @@ returns-clause-candidates c =
 
 pub returns-in_err-places-clause-near : goal.returns-in_err-places-clause-near
 returns-in_err-places-clause-near c =
-    every-near c.index.inside.table c.index.inside.patterns.items c.index.inside.rules.items c.index.invariant.keyed c.index.invariant.own c.args.name.now c.args.index.now c.index.view_is c.args.meter.now.nodes c.all_places.new.meter.nodes
-    c.all_places.ensures.steps
+    every-near c.index.inside.patterns.items c.index.inside.rules.items c.index.inside.table c.index.invariant
+    c.args.name.now c.args.index.now c.index.view_is
+    c.args.meter.now.nodes c.all_places.new.meter.nodes c.all_places.ensures.steps
 
 pub returns-in_err-found-clause-near : goal.returns-in_err-found-clause-near
 returns-in_err-found-clause-near c =
-    let before = every-near c.index.inside.table c.index.inside.patterns.items c.index.inside.rules.items c.index.invariant.keyed c.index.invariant.own c.args.name.now c.args.index.now c.index.view_is c.args.meter.now.nodes c.all_places.new.meter.nodes
-    c.all_places.ensures.steps in
+    let before =
+    every-near c.index.inside.patterns.items c.index.inside.rules.items c.index.inside.table c.index.invariant
+    c.args.name.now c.args.index.now c.index.view_is
+    c.args.meter.now.nodes c.all_places.new.meter.nodes c.all_places.ensures.steps in
     omega (arith, before, c.offers.ensures.nodes)
 
 pub returns-in_err-sorted-clause-near : goal.returns-in_err-sorted-clause-near
 returns-in_err-sorted-clause-near c =
-    let before = every-near c.index.inside.table c.index.inside.patterns.items c.index.inside.rules.items c.index.invariant.keyed c.index.invariant.own c.args.name.now c.args.index.now c.index.view_is c.args.meter.now.nodes c.all_places.new.meter.nodes
-    c.all_places.ensures.steps in
+    let before =
+    every-near c.index.inside.patterns.items c.index.inside.rules.items c.index.inside.table c.index.invariant
+    c.args.name.now c.args.index.now c.index.view_is
+    c.args.meter.now.nodes c.all_places.new.meter.nodes c.all_places.ensures.steps in
     omega (arith, before, c.offers.ensures.nodes)
 
 pub returns-in_err-push-clause-near : goal.returns-in_err-push-clause-near
 returns-in_err-push-clause-near c =
-    let before = every-near c.index.inside.table c.index.inside.patterns.items c.index.inside.rules.items c.index.invariant.keyed c.index.invariant.own c.args.name.now c.args.index.now c.index.view_is c.args.meter.now.nodes c.all_places.new.meter.nodes
-    c.all_places.ensures.steps in
+    let before =
+    every-near c.index.inside.patterns.items c.index.inside.rules.items c.index.inside.table c.index.invariant
+    c.args.name.now c.args.index.now c.index.view_is
+    c.args.meter.now.nodes c.all_places.new.meter.nodes c.all_places.ensures.steps in
     omega (arith, before, c.offers.ensures.nodes)
 
 pub returns-clause-near : goal.returns-clause-near
 returns-clause-near c =
-    let before = every-near c.index.inside.table c.index.inside.patterns.items c.index.inside.rules.items c.index.invariant.keyed c.index.invariant.own c.args.name.now c.args.index.now c.index.view_is c.args.meter.now.nodes c.all_places.new.meter.nodes
-    c.all_places.ensures.steps in
+    let before =
+    every-near c.index.inside.patterns.items c.index.inside.rules.items c.index.inside.table c.index.invariant
+    c.args.name.now c.args.index.now c.index.view_is
+    c.args.meter.now.nodes c.all_places.new.meter.nodes c.all_places.ensures.steps in
     omega (arith, before, c.offers.ensures.nodes)

@@ -39,88 +39,99 @@ returns-clause-kept c =
 
 pub returns-in_err-texts-clause-near : goal.returns-in_err-texts-clause-near
 returns-in_err-texts-clause-near c =
-    texts-near c.index.inside.table c.index.inside.patterns.items c.index.inside.rules.items c.index.invariant.keyed c.index.invariant.own c.args.name.now c.args.index.now c.index.view_is c.args.meter.now.nodes c.text_places.new.meter.nodes
-    c.text_places.ensures.steps
+    texts-near c.index.inside.patterns.items c.index.inside.rules.items c.index.inside.table c.index.invariant
+    c.args.name.now c.args.index.now c.index.view_is
+    c.args.meter.now.nodes c.text_places.new.meter.nodes c.text_places.ensures.steps
 
 pub returns-in_err-texts-clause-texts : goal.returns-in_err-texts-clause-texts
 returns-in_err-texts-clause-texts c =
     λ some.
-    let before = texts-nodes c.index.inside.table c.index.inside.patterns.items c.index.inside.rules.items c.index.invariant.keyed c.index.invariant.own c.args.name.now c.args.index.now c.index.view_is c.args.meter.now.nodes c.text_places.new.meter.nodes
-    c.text_places.ensures.steps in
+    let before = texts-nodes c.index.inside.patterns.items c.index.inside.rules.items c.index.inside.table c.index.invariant
+    c.args.name.now c.args.index.now c.index.view_is
+    c.args.meter.now.nodes c.text_places.new.meter.nodes c.text_places.ensures.steps in
     omega (arith, before)
 
 pub returns-in_err-kept-clause-near : goal.returns-in_err-kept-clause-near
 returns-in_err-kept-clause-near c =
-    let before = texts-near c.index.inside.table c.index.inside.patterns.items c.index.inside.rules.items c.index.invariant.keyed c.index.invariant.own c.args.name.now c.args.index.now c.index.view_is c.args.meter.now.nodes c.text_places.new.meter.nodes
-    c.text_places.ensures.steps in
+    let before = texts-near c.index.inside.patterns.items c.index.inside.rules.items c.index.inside.table c.index.invariant
+    c.args.name.now c.args.index.now c.index.view_is
+    c.args.meter.now.nodes c.text_places.new.meter.nodes c.text_places.ensures.steps in
     omega (arith, before, c.best_kinds.ensures.nodes)
 
 pub returns-in_err-kept-clause-texts : goal.returns-in_err-kept-clause-texts
 returns-in_err-kept-clause-texts c =
     λ some.
-    let before = texts-nodes c.index.inside.table c.index.inside.patterns.items c.index.inside.rules.items c.index.invariant.keyed c.index.invariant.own c.args.name.now c.args.index.now c.index.view_is c.args.meter.now.nodes c.text_places.new.meter.nodes
-    c.text_places.ensures.steps in
+    let before = texts-nodes c.index.inside.patterns.items c.index.inside.rules.items c.index.inside.table c.index.invariant
+    c.args.name.now c.args.index.now c.index.view_is
+    c.args.meter.now.nodes c.text_places.new.meter.nodes c.text_places.ensures.steps in
     omega (arith, before, c.best_kinds.ensures.nodes)
 
 pub returns-then-len-gt0-clause-near : goal.returns-then-len-gt0-clause-near
 returns-then-len-gt0-clause-near c =
-    let before = texts-near c.index.inside.table c.index.inside.patterns.items c.index.inside.rules.items c.index.invariant.keyed c.index.invariant.own c.args.name.now c.args.index.now c.index.view_is c.args.meter.now.nodes c.text_places.new.meter.nodes
-    c.text_places.ensures.steps in
+    let before = texts-near c.index.inside.patterns.items c.index.inside.rules.items c.index.inside.table c.index.invariant
+    c.args.name.now c.args.index.now c.index.view_is
+    c.args.meter.now.nodes c.text_places.new.meter.nodes c.text_places.ensures.steps in
     omega (arith, before, c.best_kinds.ensures.nodes)
 
 pub returns-then-len-gt0-clause-texts : goal.returns-then-len-gt0-clause-texts
 returns-then-len-gt0-clause-texts c =
     λ some.
-    let before = texts-nodes c.index.inside.table c.index.inside.patterns.items c.index.inside.rules.items c.index.invariant.keyed c.index.invariant.own c.args.name.now c.args.index.now c.index.view_is c.args.meter.now.nodes c.text_places.new.meter.nodes
-    c.text_places.ensures.steps in
+    let before = texts-nodes c.index.inside.patterns.items c.index.inside.rules.items c.index.inside.table c.index.invariant
+    c.args.name.now c.args.index.now c.index.view_is
+    c.args.meter.now.nodes c.text_places.new.meter.nodes c.text_places.ensures.steps in
     omega (arith, before, c.best_kinds.ensures.nodes)
 
 pub returns-in_err-others-clause-near : goal.returns-in_err-others-clause-near
 returns-in_err-others-clause-near c =
-    fronts-near c.index.inside.table c.index.inside.patterns.items c.index.inside.rules.items c.index.invariant.keyed c.index.invariant.own c.args.name.now c.args.index.now c.index.view_is c.args.meter.now.nodes c.text_places.new.meter.nodes
-    c.best_kinds.new.meter.nodes c.front_places.new.meter.nodes c.text_places.ensures.steps c.best_kinds.ensures.nodes c.front_places.ensures.steps
+    fronts-near c.index.inside.patterns.items c.index.inside.rules.items c.index.inside.table c.index.invariant
+    c.args.name.now c.args.index.now c.index.view_is c.args.meter.now.nodes c.text_places.new.meter.nodes
+    c.best_kinds.new.meter.nodes c.front_places.new.meter.nodes c.text_places.ensures.steps c.best_kinds.ensures.nodes
+    c.front_places.ensures.steps
 
 pub returns-in_err-others-clause-texts : goal.returns-in_err-others-clause-texts
 returns-in_err-others-clause-texts c =
     λ some.
-    let patterns = c.index.inside.patterns.items in
-    let near = near-texts c.index.inside.table patterns c.index.inside.rules.items c.index.invariant.keyed c.index.invariant.own c.args.name.now
-    c.in_ok-texts.texts.items c.in_ok-texts.ensures.near in
-    absurd (texts-none c.index.inside.table patterns c.index.inside.rules.items c.index.invariant.keyed c.index.invariant.own c.args.name.now c.args.index.now
-    c.index.view_is c.in_ok-kept.kept.items
-    ((rw (c.deref.ensures.value, c.deref-2.ensures.value, c.deref-3.ensures) at (c.in_ok-kept.ensures.kept (texts patterns))) near)
+    absurd (texts-none c.index.inside.patterns.items c.index.inside.rules.items c.index.inside.table c.index.invariant
+    c.args.name.now c.args.index.now c.index.view_is
+    c.in_ok-texts.texts.items c.in_ok-texts.ensures.near c.in_ok-kept.kept.items
+    (rw (c.deref.ensures.value, c.deref-2.ensures.value, c.deref-3.ensures) at
+    (c.in_ok-kept.ensures.kept (texts c.index.inside.patterns.items)))
     (omega (arith, c.if-len-gt0.false, c.len.ensures)) some)
 
 pub returns-in_err-kinds-clause-near : goal.returns-in_err-kinds-clause-near
 returns-in_err-kinds-clause-near c =
-    let before = fronts-near c.index.inside.table c.index.inside.patterns.items c.index.inside.rules.items c.index.invariant.keyed c.index.invariant.own c.args.name.now c.args.index.now c.index.view_is c.args.meter.now.nodes c.text_places.new.meter.nodes
-    c.best_kinds.new.meter.nodes c.front_places.new.meter.nodes c.text_places.ensures.steps c.best_kinds.ensures.nodes c.front_places.ensures.steps in
+    let before =
+    fronts-near c.index.inside.patterns.items c.index.inside.rules.items c.index.inside.table c.index.invariant
+    c.args.name.now c.args.index.now c.index.view_is c.args.meter.now.nodes c.text_places.new.meter.nodes
+    c.best_kinds.new.meter.nodes c.front_places.new.meter.nodes c.text_places.ensures.steps c.best_kinds.ensures.nodes
+    c.front_places.ensures.steps in
     omega (arith, before, c.best_kinds-2.ensures.nodes)
 
 pub returns-in_err-kinds-clause-texts : goal.returns-in_err-kinds-clause-texts
 returns-in_err-kinds-clause-texts c =
     λ some.
-    let patterns = c.index.inside.patterns.items in
-    let near = near-texts c.index.inside.table patterns c.index.inside.rules.items c.index.invariant.keyed c.index.invariant.own c.args.name.now
-    c.in_ok-texts.texts.items c.in_ok-texts.ensures.near in
-    absurd (texts-none c.index.inside.table patterns c.index.inside.rules.items c.index.invariant.keyed c.index.invariant.own c.args.name.now c.args.index.now
-    c.index.view_is c.in_ok-kept.kept.items
-    ((rw (c.deref.ensures.value, c.deref-2.ensures.value, c.deref-3.ensures) at (c.in_ok-kept.ensures.kept (texts patterns))) near)
+    absurd (texts-none c.index.inside.patterns.items c.index.inside.rules.items c.index.inside.table c.index.invariant
+    c.args.name.now c.args.index.now c.index.view_is
+    c.in_ok-texts.texts.items c.in_ok-texts.ensures.near c.in_ok-kept.kept.items
+    (rw (c.deref.ensures.value, c.deref-2.ensures.value, c.deref-3.ensures) at
+    (c.in_ok-kept.ensures.kept (texts c.index.inside.patterns.items)))
     (omega (arith, c.if-len-gt0.false, c.len.ensures)) some)
 
 pub returns-clause-near : goal.returns-clause-near
 returns-clause-near c =
-    let before = fronts-near c.index.inside.table c.index.inside.patterns.items c.index.inside.rules.items c.index.invariant.keyed c.index.invariant.own c.args.name.now c.args.index.now c.index.view_is c.args.meter.now.nodes c.text_places.new.meter.nodes
-    c.best_kinds.new.meter.nodes c.front_places.new.meter.nodes c.text_places.ensures.steps c.best_kinds.ensures.nodes c.front_places.ensures.steps in
+    let before =
+    fronts-near c.index.inside.patterns.items c.index.inside.rules.items c.index.inside.table c.index.invariant
+    c.args.name.now c.args.index.now c.index.view_is c.args.meter.now.nodes c.text_places.new.meter.nodes
+    c.best_kinds.new.meter.nodes c.front_places.new.meter.nodes c.text_places.ensures.steps c.best_kinds.ensures.nodes
+    c.front_places.ensures.steps in
     omega (arith, before, c.best_kinds-2.ensures.nodes)
 
 pub returns-clause-texts : goal.returns-clause-texts
 returns-clause-texts c =
     λ some.
-    let patterns = c.index.inside.patterns.items in
-    let near = near-texts c.index.inside.table patterns c.index.inside.rules.items c.index.invariant.keyed c.index.invariant.own c.args.name.now
-    c.in_ok-texts.texts.items c.in_ok-texts.ensures.near in
-    absurd (texts-none c.index.inside.table patterns c.index.inside.rules.items c.index.invariant.keyed c.index.invariant.own c.args.name.now c.args.index.now
-    c.index.view_is c.in_ok-kept.kept.items
-    ((rw (c.deref.ensures.value, c.deref-2.ensures.value, c.deref-3.ensures) at (c.in_ok-kept.ensures.kept (texts patterns))) near)
+    absurd (texts-none c.index.inside.patterns.items c.index.inside.rules.items c.index.inside.table c.index.invariant
+    c.args.name.now c.args.index.now c.index.view_is
+    c.in_ok-texts.texts.items c.in_ok-texts.ensures.near c.in_ok-kept.kept.items
+    (rw (c.deref.ensures.value, c.deref-2.ensures.value, c.deref-3.ensures) at
+    (c.in_ok-kept.ensures.kept (texts c.index.inside.patterns.items)))
     (omega (arith, c.if-len-gt0.false, c.len.ensures)) some)

@@ -1,7 +1,7 @@
 use Rattle.std.proofs.Common.{◌≡◌, ◌<◌, ◌∙◌, get_or, sym, arith}
 use Rattle.mime_names.specs.Keys.{Begins}
-use Rattle.mime_names.proofs.EndLemmas.{adds-stronger, gathers-weaker}
-use Rattle.mime_names.proofs.KeyLemmas.{begins-first, begins-from}
+use Rattle.mime_names.proofs.GatherLemmas.{adds-stronger, gathers-weaker}
+use Rattle.mime_names.proofs.FrontLemmas.{begins-first, begins-from}
 use Rattle.mime_names.proofs.TreeLemmas.{folded-below}
 use Rattle.mime_names.proofs.places.push_front.Goals as goal
 

@@ -1,16 +1,18 @@
 use Rattle.std.proofs.Common.{inl, inr, ◌≡◌, ◌<◌, arith}
 use Rattle.mime_names.specs.Keys.{Begins, Fronts}
-use Rattle.mime_names.proofs.EndLemmas.{adds-both}
+use Rattle.mime_names.proofs.GatherLemmas.{adds-both}
 use Rattle.mime_names.proofs.places.push_fronts.Goals as goal
 
 pub returns-in_err-push_front-clause-adds : goal.returns-in_err-push_front-clause-adds
 returns-in_err-push_front-clause-adds c =
     let name = c.args.name.now in
     adds-both c.args.table.now.keys.items (λ key. key ≡ 256) (λ key. (key < 256) × Begins name key) (Fronts name) _ _ _
-    (λ key any. inl any) (λ key begins. inr begins) (λ key any begins. omega (arith, any, begins.0)) c.push_key.ensures.adds c.push_front.ensures.adds
+    (λ key any. inl any) (λ key begins. inr begins) (λ key any begins. omega (arith, any, begins.0))
+    c.push_key.ensures.adds c.push_front.ensures.adds
 
 pub returns-clause-adds : goal.returns-clause-adds
 returns-clause-adds c =
     let name = c.args.name.now in
     adds-both c.args.table.now.keys.items (λ key. key ≡ 256) (λ key. (key < 256) × Begins name key) (Fronts name) _ _ _
-    (λ key any. inl any) (λ key begins. inr begins) (λ key any begins. omega (arith, any, begins.0)) c.push_key.ensures.adds c.push_front.ensures.adds
+    (λ key any. inl any) (λ key begins. inr begins) (λ key any begins. omega (arith, any, begins.0))
+    c.push_key.ensures.adds c.push_front.ensures.adds

@@ -31,5 +31,6 @@ loop-left-preserved c =
           (omega (arith, here, c.loop-left.invariant.within)) c.symbol_of.ensures.below c.symbol_of.ensures.symbol
           (subst (λ n. AddsText c.args.tree.now (drop n (spelled c.args.text.now)) c.loop-left.tree c.loop-left.at) here c.loop-left.invariant.added)
           c.in_ok-next.ensures.steps;
-      last = λ some. (c.in_ok-next.ensures.made none).last (symbol (get_or c.args.text.now (left - 1) 0)) (symbol-below (get_or c.args.text.now (left - 1) 0));
+      last = λ some. (c.in_ok-next.ensures.made none).last (symbol (get_or c.args.text.now (left - 1) 0))
+          (symbol-below (get_or c.args.text.now (left - 1) 0));
     }
