@@ -14,6 +14,7 @@ mod pieces;
 mod reads;
 mod sample;
 mod sniffed;
+mod steps;
 
 use crate::tests::checked::alike;
 use crate::tests::lookup::cached::look_up_in;
