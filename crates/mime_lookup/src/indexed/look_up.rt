@@ -34,7 +34,8 @@ use std::alloc::Global;
 /// A name of more than 4,096 bytes is [`Cause::NameTooLong`], before anything else. [`Cause::Read`]
 /// comes with a failed read and with the 1,001st interruption. The meter counts each step in the index of
 /// names as a node, and no record of a cache: at most three for each byte of the name, six, and one for each
-/// rule near it, however many rules there are; under [`Order::AllGlobs`] twice as many. As bytes it counts what
+/// rule near it, however many rules there are; under [`Order::AllGlobs`] twice as many. Where most rules are
+/// general patterns each is tried in place of that, and no node is counted. As bytes the meter counts what
 /// matching compares, and each part of the index of magic, with no promised bound.
 pub fn look_up_indexed<'a, R: Content>(
     alloc: Global,
