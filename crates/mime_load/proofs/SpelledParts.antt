@@ -14,6 +14,7 @@ use Rattle.mime_base.specs.Magic.{PlainSection}
 use Rattle.mime_base.specs.declared.database.rule.GlobRule.{GlobRule}
 use Rattle.mime_load.specs.MagicStanding.{HasMagic, MagicStands}
 use Rattle.mime_load.specs.NameLists.{HasNames, rule_bytes}
+use Rattle.mime_load.specs.PairLists.{HasPairs}
 use Rattle.mime_load.specs.Parts.{IsGlobList, IsLiteralList, IsTreeList}
 use Rattle.mime_load.specs.Whole.{IsHeader}
 use Rattle.mime_load.proofs.SameLemmas.{same_numbers}
@@ -45,6 +46,18 @@ names_read c numbers pairs rules is has =
       size = tree_alone_size c has.offsets.tree rules has.limits;
     })
 
+-- The lists that subclasses are found by, where a header that was read says.
+pub record ReadsPairs (c numbers : List ℕ) (alias_pairs parent_pairs : List (List ℕ × List ℕ)) : Type 0 where
+  pub aliases : PairsAt (Stands c) (slice_index numbers 1) alias_pairs
+  pub parents : ParentsAt (Stands c) (slice_index numbers 2) parent_pairs
+
+-- they stand there
+pub pairs_read : (c numbers : List ℕ) (aliases parents : List (List ℕ × List ℕ)) → IsHeader c numbers → HasPairs c aliases parents
+    → ReadsPairs c numbers aliases parents
+pairs_read c numbers aliases parents is has =
+    subst (λ (ns : List ℕ). ReadsPairs c ns aliases parents) (sym (same_header c numbers has.offsets is has.header))
+    (record { aliases = has.aliases; parents = has.parents })
+
 -- the magic list does
 pub magic_read : (c numbers : List ℕ) (sections : List PlainSection) → IsHeader c numbers → HasMagic c sections
     → MagicStands c (slice_index numbers 6) sections
@@ -62,6 +75,11 @@ module _ (c : List ℕ) (b : PlainDatabase) (spelled : Spells c b) (limits : IsW
     rules = record { literals_stand = spelled.literals; tree_stands = spelled.tree; globs_stand = spelled.globs };
     limits = limits.rules;
   }
+
+  -- the aliases and the parents
+  pub spelled_pairs : HasPairs c b.aliases b.parents
+  spelled_pairs =
+      record { offsets = spelled.offsets; header = spelled.header; aliases = spelled.aliases; parents = spelled.parents }
 
   -- and the sections
   pub spelled_magic : HasMagic c b.sections

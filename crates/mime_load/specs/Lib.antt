@@ -3,6 +3,7 @@ pub mod FirstUnread
 pub mod Lent
 pub mod MagicStanding
 pub mod NameLists
+pub mod PairLists
 pub mod ParentLists
 pub mod Parts
 pub mod Taking
