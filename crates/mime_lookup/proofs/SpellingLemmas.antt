@@ -12,3 +12,6 @@ pub mod IndexTypes
 pub mod Targets
 pub mod TargetSteps
 pub mod ReadLists
+pub mod Parents
+pub mod Steps
+pub mod ReadPairs

@@ -39,4 +39,5 @@ pub mod Tables
 pub mod Indexed
 pub mod IndexNodes
 pub mod Paid
+pub mod PairsReadBack
 pub mod Rows

@@ -10,6 +10,10 @@ names_price length = 5 + length / 4 + length / 8
 abbrev pub magic_due : ℕ → ℕ
 magic_due length = 2 + length / 8
 
+-- as many records as reading back its aliases and parents may visit
+abbrev pub pairs_price : ℕ → ℕ
+pairs_price length = 3 + length / 2 + length / 8
+
 -- A cache, and what is owed before more of it is read back.
 pub record PlainPaidCache : Type 0 where
   -- The cache.
@@ -20,6 +24,8 @@ pub record PlainPaidCache : Type 0 where
   pub names : Option ℕ
   -- What is owed for the magic list; none once it was tried.
   pub magic : Option ℕ
+  -- What is owed for the aliases and the parents; none once they were tried.
+  pub pairs : Option ℕ
 
 -- Nothing is paid yet.
 pub record OwesAll (paid : PlainPaidCache) : Type 0 where
@@ -27,7 +33,9 @@ pub record OwesAll (paid : PlainPaidCache) : Type 0 where
   pub owed_names : paid.names ≡ Some (names_price (length paid.cache))
   -- So does the magic list.
   pub owed_magic : paid.magic ≡ Some (magic_due (length paid.cache))
-  -- Entries of the glob list don't pay for it: as many as the list states, if it lies in the cache.
+  -- So do the aliases and the parents.
+  pub owed_pairs : paid.pairs ≡ Some (pairs_price (length paid.cache))
+  -- Entries of the glob list don't pay for the magic list: as many as the list states, if it lies in the cache.
   pub entries : (paid.listed ≡ globs_listed paid.cache) ⊎ (paid.listed ≡ 0)
 
 -- what is owed after that many records were visited, nothing at least
@@ -43,6 +51,10 @@ paid_by_name visited false it = record it { names = less it.names visited }
 -- the answer to a content alone pays for the magic list
 abbrev pub paid_by_content : ℕ → PlainPaidCache → PlainPaidCache
 paid_by_content visited it = record it { magic = less it.magic visited }
+
+-- the answer whether a type is another pays for the aliases and the parents
+abbrev pub paid_by_types : ℕ → PlainPaidCache → PlainPaidCache
+paid_by_types visited it = record it { pairs = less it.pairs visited }
 
 -- it wasn't tried yet, and owes nothing
 abbrev pub is_due : Option ℕ → Bool

@@ -1,7 +1,9 @@
-//! Names by the glob rules of a cache that were read back once.
+//! Names and subclasses by the parts of a cache that were read back once.
 
 pub mod name_types;
 pub mod names;
+pub mod pairs;
 pub mod rules;
 pub mod spelled_once;
+pub mod steps;
 pub mod targets;

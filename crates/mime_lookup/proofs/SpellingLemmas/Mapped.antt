@@ -44,3 +44,8 @@ module _ {X Y : Type 0} (f : X → Y) where
       let rest : map f xs ≡ map f ys = cc in
       ap₂ (λ (z : Z) (zs : List Z). z ∷ zs) (tells x y (All-head P x xs ps) (All-head P y ys qs) first)
       (maps-alike P g tells xs ys (All-tail P x xs ps) (All-tail P y ys qs) rest)
+
+-- functions that agree give one list
+pub maps_agree : {X Y : Type 0} (f g : X → Y) → ((x : X) → f x ≡ g x) → (xs : List X) → map f xs ≡ map g xs
+maps_agree f g agree [] = refl
+maps_agree {Y = Y} f g agree (x ∷ xs) = ap₂ (λ (y : Y) (ys : List Y). y ∷ ys) (agree x) (maps_agree f g agree xs)

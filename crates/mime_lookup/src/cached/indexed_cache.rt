@@ -1,7 +1,7 @@
 //! A cache that is opened once and looked up in many times, with what was read back of it.
 
 ghost use Rattle.std.specs.Prelude.{◌≡◌, ◌+◌, ◌*◌, ◌/◌, ◌≤◌, ◌∷◌, ℕ, List, Contains, None, length};
-ghost use Rattle.std.specs.Prelude.{IfErr, IfOk, IsOkAnd, MatchResult, OnOk};
+ghost use Rattle.std.specs.Prelude.{IfErr, IfOk, IfSome, IsOkAnd, MatchResult, OnOk};
 ghost use Rattle.mime_base.specs.Cache.Bytes.{Stands, field};
 ghost use Rattle.mime_base.specs.Database.{PlainDatabase, pairs_of};
 ghost use Rattle.mime_base.specs.Database.Subclass.{resolved};
@@ -35,8 +35,9 @@ use crate::cached::sniff::{Finding, sniff_front, sniff_indexed};
 use crate::indexed::magic_index::MagicIndex;
 use crate::read_back::name_types::types_of as types_indexed;
 use crate::read_back::names::IndexedNames;
+use crate::read_back::pairs::IndexedPairs;
 use mime_base::{Counted, Host, Meter};
-use mime_load::{Unread, read_names};
+use mime_load::{Unread, read_names, read_pairs};
 use mime_view::{Budget, Cache, CacheFault, Spending, Which};
 use std::alloc::Global;
 use std::marker::Model;
@@ -55,6 +56,8 @@ pub struct IndexedCache<'a> {
     names: Option<Box<IndexedNames<'a>>>,
     /// The lines of magic, where they were read back.
     magic: Option<Box<MagicIndex<'a>>>,
+    /// The aliases and the parents, where they were read back.
+    pairs: Option<Box<IndexedPairs<'a>>>,
 }
 
 impl<'a> Model for IndexedCache<'a> {
@@ -68,7 +71,8 @@ impl<'a> Model for IndexedCache<'a> {
 
     ghost invariant = { λ indexed. Opens indexed.cache × (indexed.counted ≡ indexed.cache)
         × IfSome indexed.names (λ names. names.value ≡ indexed.cache)
-        × IfSome indexed.magic (λ magic. IsMagicOf indexed.cache magic.value) };
+        × IfSome indexed.magic (λ magic. IsMagicOf indexed.cache magic.value)
+        × IfSome indexed.pairs (λ pairs. pairs.value ≡ indexed.cache) };
 }
 
 impl<'a> IndexedCache<'a> {
@@ -93,6 +97,7 @@ impl<'a> IndexedCache<'a> {
             cache,
             names: None,
             magic: None,
+            pairs: None,
         })
     }
 
@@ -131,6 +136,35 @@ impl<'a> IndexedCache<'a> {
         let index = read_magic(alloc, &self.counted, meter)?;
         self.magic = Some(Box::new(alloc, index)?);
         Ok(())
+    }
+
+    /// Reads the aliases and the parents back, for many questions whether a type is another. It takes memory for each alias and each type
+    /// that has a parent.
+    ///
+    /// # Errors
+    ///
+    /// One of these lists spells nothing, or an allocation was refused. Then nothing changes.
+    pub fn read_pairs(&mut self, alloc: Global, meter: &mut Meter) -> Result<(), Unread>
+        // The cache is the same.
+        ensures same { self.new ≡ self.old }
+        // It visits at most a record for each two bytes of the cache, one for each eight, and three.
+        ensures nodes { meter.new.nodes ≤ meter.old.nodes + length self.old / 2 + length self.old / 8 + 3 }
+    {
+        let lists = read_pairs(alloc, &self.counted, meter)?;
+        let index = IndexedPairs::new(alloc, self.counted.again(), &lists)?;
+        self.pairs = Some(Box::new(alloc, index)?);
+        Ok(())
+    }
+
+    /// The aliases and the parents, where they were read back.
+    pub(crate) fn pairs(&self) -> Option<&IndexedPairs<'a>>
+        // They are those of the cache.
+        ensures { IfSome result (λ pairs. pairs.now ≡ self.now) }
+    {
+        match &self.pairs {
+            Some(pairs) => Some(pairs),
+            None => None,
+        }
     }
 
     /// The cache, for what there is no index of.

@@ -1,6 +1,7 @@
 //! A cache that is read back once its answers have paid for that. This project's own.
 //!
-//! What names need is read back once answers have visited as many records as that may visit. The magic list is read back once twice as
+//! What names need is read back once answers have visited as many records as that may visit; so are the aliases and the parents once
+//! answers whether a type is another have. The magic list is read back once twice as
 //! many were visited by those whose content was read, since one of its records takes as long as two that a walk visits; the entries of
 //! the glob list aren't counted there, which a walk passes quickly. So what answers take stays within a stated multiple of what walks
 //! take, whatever the cache is, and few questions read nothing back. Each part is read back once at most: where memory is refused, or the
@@ -9,6 +10,7 @@
 ghost use Rattle.std.specs.Prelude.{◌≡◌, ◌+◌, ◌≤◌, None, false, length, true, IfOk, MatchResult, OnOk};
 ghost use Rattle.mime_base.specs.Meter.{raised};
 ghost use Rattle.mime_lookup.specs.Paid.{OwesAll, is_due, less, magic_due, names_price, paid_by_content, paid_by_name};
+ghost use Rattle.mime_lookup.specs.Paid.{pairs_price, paid_by_types};
 ghost use Rattle.mime_view.specs.Opening.{IsOpenFault, Opens};
 
 use crate::cached::indexed_cache::IndexedCache;
@@ -25,6 +27,8 @@ pub struct PaidCache<'a> {
     names: Option<u64>,
     /// What is owed for the magic list.
     magic: Option<u64>,
+    /// What is owed for the aliases and the parents.
+    pairs: Option<u64>,
     /// How many entries the glob list has.
     listed: u64,
 }
@@ -34,7 +38,13 @@ impl<'a> Model for PaidCache<'a> {
 
     ghost Value = { PlainPaidCache };
 
-    ghost view = { λ paid. record { cache = paid.indexed; listed = paid.listed; names = paid.names; magic = paid.magic } };
+    ghost view = { λ paid. record {
+      cache = paid.indexed;
+      listed = paid.listed;
+      names = paid.names;
+      magic = paid.magic;
+      pairs = paid.pairs;
+    } };
 }
 
 impl<'a> PaidCache<'a> {
@@ -59,6 +69,7 @@ impl<'a> PaidCache<'a> {
             indexed,
             names: Some(names_price(length)),
             magic: Some(magic_price(length)),
+            pairs: Some(pairs_price(length)),
             listed,
         })
     }
@@ -71,11 +82,11 @@ impl<'a> PaidCache<'a> {
         &self.indexed
     }
 
-    /// Reads back what is paid: what names need, else the magic list.
+    /// Reads back what is paid: what names need, else the magic list, else the aliases and the parents.
     #[inline]
     pub fn read_paid(&mut self, alloc: Global, meter: &mut Meter)
         // What is still owed is not read back: all stays, and nothing is visited.
-        ensures unpaid { is_due self.old.names ≡ false → is_due self.old.magic ≡ false
+        ensures unpaid { is_due self.old.names ≡ false → is_due self.old.magic ≡ false → is_due self.old.pairs ≡ false
             → (self.new ≡ self.old) × (meter.new ≡ meter.old) }
         // Names that owe nothing are tried, and are then none.
         ensures names { is_due self.old.names ≡ true → self.new ≡ record self.old { names = None } }
@@ -88,6 +99,12 @@ impl<'a> PaidCache<'a> {
         // That visits no more than was paid for it either.
         ensures magic_cost { is_due self.old.names ≡ false → is_due self.old.magic ≡ true
             → meter.new.nodes ≤ meter.old.nodes + magic_due (length self.old.cache) }
+        // So it is with the aliases and the parents, where the others are still owed or were tried.
+        ensures pairs { is_due self.old.names ≡ false → is_due self.old.magic ≡ false → is_due self.old.pairs ≡ true
+            → self.new ≡ record self.old { pairs = None } }
+        // That visits no more than was paid for them.
+        ensures pairs_cost { is_due self.old.names ≡ false → is_due self.old.magic ≡ false → is_due self.old.pairs ≡ true
+            → meter.new.nodes ≤ meter.old.nodes + pairs_price (length self.old.cache) }
     {
         if is_due(self.names) {
             self.names = None;
@@ -95,6 +112,9 @@ impl<'a> PaidCache<'a> {
         } else if is_due(self.magic) {
             self.magic = None;
             self.read_magic(alloc, meter);
+        } else if is_due(self.pairs) {
+            self.pairs = None;
+            self.read_pairs(alloc, meter);
         }
     }
 
@@ -119,6 +139,15 @@ impl<'a> PaidCache<'a> {
         self.magic = less(self.magic, visited);
     }
 
+    /// Counts what the answer whether a type is another visited.
+    #[inline]
+    pub fn pay_types(&mut self, visited: u64)
+        // Less is owed for the aliases and the parents.
+        ensures { self.new ≡ paid_by_types visited self.old }
+    {
+        self.pairs = less(self.pairs, visited);
+    }
+
     // Never inlined: it is done once.
     #[inline(never)]
     fn read_names(&mut self, alloc: Global, meter: &mut Meter)
@@ -140,6 +169,17 @@ impl<'a> PaidCache<'a> {
         // Where nothing was read back, the walk goes on.
         let _ = self.indexed.read_magic(alloc, meter);
     }
+
+    // Never inlined: it is done once.
+    #[inline(never)]
+    fn read_pairs(&mut self, alloc: Global, meter: &mut Meter)
+        ensures same { self.new ≡ self.old }
+        // It visits no more records than were paid for it.
+        ensures cost { meter.new.nodes ≤ meter.old.nodes + pairs_price (length self.old.cache) }
+    {
+        // Where nothing was read back, the walk goes on.
+        let _ = self.indexed.read_pairs(alloc, meter);
+    }
 }
 
 /// What is paid before the names of a cache of this length are read back: as many records as that may visit.
@@ -156,6 +196,14 @@ fn magic_price(length: u64) -> u64
     ensures { result ≡ magic_due length }
 {
     2 + length / 8
+}
+
+/// What is paid before its aliases and its parents are: as many records as that may visit.
+fn pairs_price(length: u64) -> u64
+    requires small { length ≤ 268435456 }
+    ensures { result ≡ pairs_price length }
+{
+    3 + length / 2 + length / 8
 }
 
 /// What is owed after that many records were visited.

@@ -10,6 +10,7 @@ ghost use Rattle.mime_view.specs.Spending.{Looks};
 
 use crate::cached::ancestry::leads_to;
 use crate::cached::indexed_cache::IndexedCache;
+use crate::read_back::pairs::{Climbed, IndexedPairs};
 use crate::stopped::{Cause, Stopped};
 use mime_base::{Counted, Meter, TypeName};
 use mime_view::{CacheFault, Marks, Spending};
@@ -143,6 +144,69 @@ fn search_opened<'k, 'a: 'k>(
 // Part of its caller, as that is.
 #[inline(always)]
 fn search<'k, 'a: 'k>(
+    alloc: Global,
+    indexed: &IndexedCache<'a>,
+    kind: &'k [u8],
+    base: &'k [u8],
+    spending: &mut Spending,
+) -> Result<bool, CacheFault>
+    // It is a type's name.
+    requires base { length base.now ≤ 255 }
+    // Where the pairs stand, it says whether the one type is the other or a subclass of it, each resolved.
+    ensures answer { SaysIsA (λ is. is) indexed.now kind.entry.now base.entry.now result }
+    // Where the pairs stand and a record is left for each parent, only memory is refused.
+    ensures need { NeedsParents indexed.now spending.old.budget result }
+    // The parents of a type, an alias step or memory shows the fault.
+    ensures fault { IfErr result (IsSearchFault indexed.now spending.new.budget) }
+    // It costs 87 nodes, and 59 for each record that it takes.
+    ensures cost { Costs search_cost 0 87 spending.old spending.new }
+{
+    match indexed.pairs() {
+        Some(pairs) => climb(alloc, indexed, pairs, kind, base, spending),
+        None => walk(alloc, indexed, kind, base, spending),
+    }
+}
+
+/// The same by the pairs that were read back, and by a walk from a type that has several parents.
+fn climb<'k, 'a: 'k>(
+    alloc: Global,
+    indexed: &IndexedCache<'a>,
+    pairs: &IndexedPairs<'a>,
+    kind: &'k [u8],
+    base: &'k [u8],
+    spending: &mut Spending,
+) -> Result<bool, CacheFault>
+    // They are those of the cache.
+    requires same { pairs.now ≡ indexed.now }
+    // It is a type's name.
+    requires base { length base.now ≤ 255 }
+    // Where the pairs stand, it says whether the one type is the other or a subclass of it, each resolved.
+    ensures answer { SaysIsA (λ is. is) indexed.now kind.entry.now base.entry.now result }
+    // Where the pairs stand and a record is left for each parent, only memory is refused.
+    ensures need { NeedsParents indexed.now spending.old.budget result }
+    // The parents of a type, an alias step or memory shows the fault.
+    ensures fault { IfErr result (IsSearchFault indexed.now spending.new.budget) }
+    // It costs 29 nodes, and 59 for each record that it takes.
+    ensures cost { Costs search_cost 0 29 spending.old spending.new }
+{
+    let base = pairs.unalias(base);
+    match pairs.climb(pairs.unalias(kind), base) {
+        Climbed::Found(is) => Ok(is),
+        Climbed::Open(here) => leads_to(
+            alloc,
+            indexed,
+            &mut Marks::new(alloc),
+            here,
+            base,
+            spending,
+        ),
+    }
+}
+
+/// The same by a walk of the cache.
+// Part of its caller, as that is.
+#[inline(always)]
+fn walk<'k, 'a: 'k>(
     alloc: Global,
     indexed: &IndexedCache<'a>,
     kind: &'k [u8],

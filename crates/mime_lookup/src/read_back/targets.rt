@@ -28,11 +28,13 @@ pub fn targets_of<'a>(
 }
 
 /// The pair at a place.
-fn pair_at<'b, 'a>(aliases: &'b [LentPair<'a>], place: usize) -> &'b LentPair<'a>
-    requires { place < length aliases.now }
-    ensures { result.now ≡ get_or aliases.now place result.now }
+pub fn pair_at<'b, 'a>(pairs: &'b [LentPair<'a>], place: usize) -> &'b LentPair<'a>
+    // It is one of them.
+    requires { place < length pairs.now }
+    // It is the one that is there.
+    ensures { result.now ≡ get_or pairs.now place result.now }
 {
-    &aliases[place]
+    &pairs[place]
 }
 
 /// A type after one alias step.

@@ -7,7 +7,7 @@ use Rattle.mime_lookup.specs.Searching.{marked_by}
 use Rattle.mime_lookup.proofs.CostLemmas.ShortTexts.{text_short}
 use Rattle.mime_lookup.proofs.AncestryLemmas.PairsLeft.{unmarked_most}
 use Rattle.mime_lookup.proofs.AncestryLemmas.PlaceMarks.{marked-none}
-use Rattle.mime_lookup.proofs.cached.subclass.search.Goals as goal
+use Rattle.mime_lookup.proofs.cached.subclass.walk.Goals as goal
 
 pub returns-in_err-kind-clause-need : goal.returns-in_err-kind-clause-need
 returns-in_err-kind-clause-need c = λ b spells enough.
