@@ -1,17 +1,18 @@
 //! Whether a type is a subclass of another, by a database that is open.
 
-ghost use Rattle.std.specs.Prelude.{◌≡◌, true};
+ghost use Rattle.std.specs.Prelude.{◌≡◌, ◌≢◌, IfErr, true};
 ghost use Rattle.mime_base.specs.Names.{is_type_name};
 ghost use Rattle.mime_c.specs.Handle.{IsByHandle, StaysOpen};
-ghost use Rattle.mime_c.specs.IsA.{IsAsked, IsSearched};
+ghost use Rattle.mime_c.specs.IsA.{IsAsked, IsSubclassSearch};
 
 use crate::database::handle::Handle;
 use crate::database::kept::HandleReport;
 use crate::database::open_database::OpenDatabase;
-use crate::report::{Report, answered, status_report, stop_report};
+use crate::is_a::tell;
+use crate::report::{Report, status_report};
 use crate::status::NOT_A_TYPE;
 use mime_base::{Meter, is_type_name};
-use mime_lookup::is_a_again;
+use mime_lookup::{Cause, Stopped, is_a_again};
 use std::alloc::Global;
 
 /// What `mimelook_is_a` gives, over what is open.
@@ -39,26 +40,41 @@ pub extern "C" fn mimelook_database_is_a(
 }
 
 // The same of what is open.
-fn ask(alloc: Global, opened: &OpenDatabase, kind: &[u8], base: &[u8], is: &mut bool) -> Report
-    ensures { IsAsked opened.now kind.now base.now is.old is.new result }
+fn ask(alloc: Global, opened: &mut OpenDatabase, kind: &[u8], base: &[u8], is: &mut bool) -> Report
+    ensures same { opened.new ≡ opened.old }
+    ensures promises { IsAsked opened.old kind.now base.now is.old is.new result }
 {
     if is_type_name(kind) && is_type_name(base) {
-        search(alloc, opened, kind, base, is)
+        let found = search(alloc, opened, kind, base);
+        tell(found, is)
     } else {
         status_report(NOT_A_TYPE, 0, Meter::new())
     }
 }
 
-// The same of type names.
-fn search(alloc: Global, opened: &OpenDatabase, kind: &[u8], base: &[u8], is: &mut bool) -> Report
+// The answer for type names.
+fn search(
+    alloc: Global,
+    opened: &mut OpenDatabase,
+    kind: &[u8],
+    base: &[u8],
+) -> Result<(bool, Meter), Stopped>
     requires base { is_type_name base.now ≡ true }
-    ensures { IsSearched opened.now kind.now base.now is.old is.new result }
+    ensures same { opened.new ≡ opened.old }
+    ensures promises { IsSubclassSearch opened.old kind.now base.now result }
+    ensures readable { IfErr result (λ stopped. stopped.cause ≢ Cause.Read) }
 {
-    match is_a_again(alloc, opened.indexed(), kind, base) {
-        Ok((found, meter)) => {
-            *is = found;
-            answered(0, meter)
-        }
-        Err(stopped) => stop_report(stopped),
+    opened.read_paid(alloc);
+    let found = is_a_again(alloc, opened.indexed(), kind, base);
+    pay(opened, &found);
+    found
+}
+
+// Counts what an answer visited.
+fn pay(opened: &mut OpenDatabase, found: &Result<(bool, Meter), Stopped>)
+    ensures same { opened.new ≡ opened.old }
+{
+    if let Ok((_, meter)) = found {
+        opened.pay_types(meter.nodes);
     }
 }

@@ -79,4 +79,12 @@ impl OpenDatabase {
     {
         self.paid.pay_sniffed(visited);
     }
+
+    /// Counts what the answer whether a type is another visited.
+    pub(super) fn pay_types(&mut self, visited: u64)
+        // It is the same cache.
+        ensures same { self.new ≡ self.old }
+    {
+        self.paid.pay_types(visited);
+    }
 }

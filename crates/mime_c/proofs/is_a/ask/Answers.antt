@@ -1,13 +1,13 @@
-use Rattle.std.proofs.Common.{ℕ, List, Err, refl, subst}
+use Rattle.std.proofs.Common.{ℕ, List, subst}
 use Rattle.mime_c.specs.IsA.{IsSubclassSearch}
 use Rattle.mime_c.proofs.is_a.ask.Goals as goal
 
-pub returns-in-Err : goal.returns-in-Err
-returns-in-Err c =
-    let is = c.in-Err.ensures in
+pub returns : goal.returns
+returns c =
+    let is = c.is_a-found.ensures in
     record {
-      outcome = Err c.in-Err.stopped;
-      promised = subst (λ (cache : List ℕ). IsSubclassSearch cache c.args.kind.now c.args.base.now (Err c.in-Err.stopped)) c.new.ensures
+      outcome = c.is_a-found.result;
+      promised = subst (λ (cache : List ℕ). IsSubclassSearch cache c.args.kind.now c.args.base.now c.is_a-found.result) c.new.ensures
           (record {
             answer = is.answer;
             stops = is.stops;
@@ -15,5 +15,5 @@ returns-in-Err c =
             read = is.read;
             bounds = is.bounds;
           });
-      told_so = (refl, c.stop_report.ensures);
+      told_so = c.tell.ensures;
     }
