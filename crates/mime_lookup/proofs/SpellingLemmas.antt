@@ -12,6 +12,7 @@ pub mod IndexTypes
 pub mod Targets
 pub mod TargetSteps
 pub mod ReadLists
+pub mod PairMarks
 pub mod Parents
 pub mod Steps
 pub mod ReadPairs

@@ -1,6 +1,6 @@
 //! Where the pairs of each name stand, so that a search goes through no other pairs.
 
-mod marks;
+pub mod marks;
 
 ghost use Rattle.std.specs.Prelude.{◌≡◌, ◌+◌, ◌<◌, ◌++◌, get_or, length, map, IfOk, OnOk};
 ghost use Rattle.mime_base.specs.Database.PlainPairs.{plain_pairs};

@@ -1,5 +1,6 @@
 //! Names and subclasses by the parts of a cache that were read back once.
 
+pub mod marked;
 pub mod name_types;
 pub mod names;
 pub mod pairs;

@@ -33,7 +33,7 @@ marked-none pairs marks many = record {
 }
 
 -- a mark that was set stays
-mark-kept : (marks : List Bool) (m k : ℕ) → m < length marks → get_or marks k false ≡ true → get_or (set marks m true) k false ≡ true
+pub mark-kept : (marks : List Bool) (m k : ℕ) → m < length marks → get_or marks k false ≡ true → get_or (set marks m true) k false ≡ true
 mark-kept marks m k within is =
     ⊎_elim (λ here. ap (λ (n : ℕ). get_or (set marks m true) n false) here ∙ get_or-set_same marks m true false within)
     (λ other. get_or-set_other marks m k true false other ∙ is) (cases_eq k m)

@@ -3,15 +3,17 @@
 ghost use Rattle.std.specs.Prelude.{◌≡◌, ℕ, List, IfOk};
 ghost use Rattle.mime_base.specs.Cache.Bytes.{Stands, field};
 ghost use Rattle.mime_base.specs.Database.{PlainDatabase, pairs_of};
-ghost use Rattle.mime_base.specs.Database.Subclass.{resolved};
+ghost use Rattle.mime_base.specs.Database.Subclass.{above, resolved};
 ghost use Rattle.mime_base.specs.Format.Header.{HeaderAt, Offsets};
 ghost use Rattle.mime_base.specs.Format.Pairs.{PairsAt};
 ghost use Rattle.mime_load.specs.PairLists.{ArePairLists};
 ghost use Rattle.mime_lookup.specs.PairsReadBack.{IsClimbed};
+ghost use Rattle.mime_lookup.specs.Places.{IsAbove};
 ghost use Rattle.mime_lookup.specs.Spelling.{SpellsPairs};
 ghost use Rattle.mime_view.specs.Pairs.{IsUnaliased};
 
 use crate::places::Above;
+use crate::read_back::marked::{is_marked, marks_of};
 use crate::read_back::steps::{step_of, steps_of};
 use crate::read_back::targets::{target_of, targets_of};
 use crate::subclass::is_by_itself;
@@ -29,8 +31,12 @@ const STEPS: u32 = 16;
 pub struct IndexedPairs<'a> {
     /// The bytes of the cache.
     counted: Counted<'a>,
+    /// Of each mark whether an alias has it.
+    aliases: Vec<bool>,
     /// The target of each of its aliases.
     targets: IndexMap<&'a [u8], &'a [u8]>,
+    /// Of each mark whether a type that has a parent has it.
+    children: Vec<bool>,
     /// What is one step above each type that has a parent.
     steps: IndexMap<&'a [u8], Above<'a>>,
 }
@@ -45,15 +51,17 @@ pub enum Climbed<'k> {
 }
 
 impl<'a> Model for IndexedPairs<'a> {
-    ghost use Rattle.std.specs.Prelude.{ℕ, List};
-    ghost use Rattle.mime_lookup.specs.PairsReadBack.{AreStepsOf};
-    ghost use Rattle.mime_lookup.specs.ReadBack.{AreTargetsOf};
+    ghost use Rattle.std.specs.Prelude.{◌≡◌, ℕ, List};
+    ghost use Rattle.mime_lookup.specs.PairsReadBack.{AreStepsOf, Unmarked};
+    ghost use Rattle.mime_lookup.specs.ReadBack.{AreTargetsOf, target_in};
 
     ghost Value = { List ℕ };
 
     ghost view = { λ pairs. pairs.counted };
 
-    ghost invariant = { λ pairs. AreTargetsOf pairs.counted pairs.targets × AreStepsOf pairs.counted pairs.steps };
+    ghost invariant = { λ pairs. AreTargetsOf pairs.counted pairs.targets
+        × AreStepsOf pairs.counted pairs.children.items pairs.steps
+        × Unmarked (λ kind. target_in pairs.targets kind ≡ kind) pairs.aliases.items };
 }
 
 impl<'a> IndexedPairs<'a> {
@@ -68,11 +76,15 @@ impl<'a> IndexedPairs<'a> {
         // It is an index over this cache.
         ensures { IfOk result (λ pairs. pairs ≡ counted.entry) }
     {
+        let aliases = marks_of(alloc, &lists.aliases)?;
         let targets = targets_of(alloc, &lists.aliases)?;
+        let children = marks_of(alloc, &lists.parents)?;
         let steps = steps_of(alloc, &lists.parents, &targets)?;
         Ok(IndexedPairs {
             counted,
+            aliases,
             targets,
+            children,
             steps,
         })
     }
@@ -87,7 +99,11 @@ impl<'a> IndexedPairs<'a> {
         // The list of aliases lies in the cache, and it is the type itself or a text of the cache.
         ensures given { IsUnaliased self.now (field self.now 0 1) kind.now result.now }
     {
-        target_of(&self.targets, kind)
+        if is_marked(&self.aliases, kind) {
+            target_of(&self.targets, kind)
+        } else {
+            kind
+        }
     }
 
     /// Climbs from a type towards a base, while each has one parent. It never allocates.
@@ -103,12 +119,23 @@ impl<'a> IndexedPairs<'a> {
             if is_by_itself(here, base, &mut meter) {
                 return Climbed::Found(true);
             }
-            match step_of(&self.steps, here) {
+            match self.above(here) {
                 Above::Nothing => return Climbed::Found(false),
                 Above::One(parent) => here = parent,
                 Above::Several => break,
             }
         }
         Climbed::Open(here)
+    }
+
+    /// What is one step above a type.
+    fn above(&self, kind: &[u8]) -> Above<'a>
+        ensures { (b : PlainDatabase) → SpellsPairs self.now b → IsAbove (above (pairs_of b) kind.now) result }
+    {
+        if is_marked(&self.children, kind) {
+            step_of(&self.steps, kind)
+        } else {
+            Above::Nothing
+        }
     }
 }
