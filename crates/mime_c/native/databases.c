@@ -221,6 +221,11 @@ static mimelook_report ask_content(mimelook_database *database) {
     return mimelook_database_sniff(database, bytes_of("\x1f\x8b\x08"), 3, &sniffed);
 }
 
+static mimelook_report ask_types(mimelook_database *database) {
+    bool is;
+    return mimelook_database_is_a(database, bytes_of("t/h"), 3, bytes_of("t/m"), 3, &is);
+}
+
 /* Answers visit what they visit over the bytes until they have paid the price, and less after that. */
 static void reads_back(question *ask, uint64_t price) {
     mimelook_database *database;
@@ -256,6 +261,7 @@ int main(void) {
     texts_stay();
     reads_back(ask_name, 5 + sizeof SAMPLE / 4 + sizeof SAMPLE / 8);
     reads_back(ask_content, 2 + sizeof SAMPLE / 8);
+    reads_back(ask_types, 3 + sizeof SAMPLE / 2 + sizeof SAMPLE / 8);
     many_times();
     return told();
 }

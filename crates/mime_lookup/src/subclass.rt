@@ -12,6 +12,8 @@ use mime_base::{Meter, same_name};
 ///
 /// Every `text/*` type is a subclass of `text/plain`, and every type but `inode/*` of
 /// `application/octet-stream`.
+// Part of each search, which asks it of each type that it comes to.
+#[inline(always)]
 #[tactic(auto, unfolding(mime_base::specs::Database::Subclass::is_by_itself))]
 pub fn is_by_itself(kind: &[u8], base: &[u8], meter: &mut Meter) -> bool
     // It says whether the type is under the base without any pair.

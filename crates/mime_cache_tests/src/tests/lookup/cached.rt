@@ -12,6 +12,7 @@ mod names;
 mod orders;
 mod paid;
 mod readers;
+mod subclasses;
 
 use super::{Outcome, outcome_of};
 use crate::tests::checked::alike;

@@ -3,7 +3,7 @@
 use crate::tests::checked::alike;
 use crate::tests::sample::SAMPLE;
 use mime_base::{Counted, Host, Meter};
-use mime_lookup::{Order, PaidCache, look_up_name_again, sniff_again};
+use mime_lookup::{Order, PaidCache, is_a_again, look_up_name_again, sniff_again};
 use std::process::Abort;
 use std::test::Fail;
 
@@ -13,7 +13,10 @@ const NAMES_PRICE: u64 = 95;
 /// What is paid for the magic list: a record for each eight, and two.
 const MAGIC_PRICE: u64 = 32;
 
-/// More answers than either price takes.
+/// What is paid for the aliases and the parents: a record for each two, one for each eight, and three.
+const PAIRS_PRICE: u64 = 153;
+
+/// More answers than any price takes.
 const ANSWERS: u64 = 40;
 
 #[test]
@@ -64,6 +67,31 @@ fn contents_pay(rt: HostRuntime) -> Result<(), Fail> {
         }
         paid.pay_sniffed(found.meter.nodes);
         visited = visited.saturating_add(found.meter.nodes);
+    }
+    are_read(&rt, &read, &due);
+    Ok(())
+}
+
+/// An answer whether a type is another visits less once the pairs are read back.
+#[test]
+fn types_pay(rt: HostRuntime) -> Result<(), Fail> {
+    let alloc = rt.alloc();
+    let mut paid = PaidCache::open(Counted::new(&SAMPLE), &mut Meter::new())?;
+    let (_, walked) = is_a_again(alloc, paid.indexed(), b"t/h", b"t/m")?;
+    let (mut read, mut due) = (Vec::new(alloc), Vec::new(alloc));
+    let mut visited: u64 = 0;
+    for _ in 0..ANSWERS {
+        paid.read_paid(alloc, &mut Meter::new());
+        let (is, meter) = is_a_again(alloc, paid.indexed(), b"t/h", b"t/m")?;
+        alike(&rt, "is a", is, true);
+        if meter.nodes < walked.nodes {
+            read.push(visited)?;
+        }
+        if visited >= PAIRS_PRICE {
+            due.push(visited)?;
+        }
+        paid.pay_types(meter.nodes);
+        visited = visited.saturating_add(meter.nodes);
     }
     are_read(&rt, &read, &due);
     Ok(())

@@ -1,0 +1,200 @@
+//! Subclasses by the aliases and the parents of a cache that were read back: they are those over its bytes, and no record but the header
+//! is visited for them while each type has one parent.
+
+use crate::tests::checked::alike;
+use crate::tests::sample::damaged;
+use crate::tests::texts::{EMPTY, Texts, merged};
+use mime_base::{Counted, Meter, TypeName};
+use mime_load::Unread;
+use mime_lookup::{Cause, IndexedCache, is_a, is_a_again};
+use mime_store::write_cache;
+use std::alloc::Global;
+use std::test::Fail;
+
+/// A chain of more steps than are made at once, a type of two parents, two types that are each above the other, and aliases.
+const SUBCLASSES: Texts<'static> = Texts {
+    aliases: b"x/first c/0\nx/third c/2\nx/top d/top\n",
+    subclasses: b"c/0 c/1\nc/1 c/2\nc/2 c/3\nc/3 c/4\nc/4 c/5\nc/5 c/6\nc/6 c/7\nc/7 c/8\nc/8 c/9\nc/9 c/10\nc/10 c/11\nc/11 c/12\nc/12 c/13\nc/13 c/14\nc/14 c/15\nc/15 c/16\nc/16 c/17\nc/17 c/18\n\
+d/bottom d/left\nd/bottom d/right\nd/below d/bottom\nd/right x/top\nl/a l/b\nl/b l/a\n",
+    ..EMPTY
+};
+
+/// A type and another, whether it is that or a subclass of it, and whether the header alone is visited for that.
+struct Row {
+    kind: &'static [u8],
+    base: &'static [u8],
+    is: bool,
+    is_climbed: bool,
+}
+
+static ROWS: [Row; 17] = [
+    Row {
+        kind: b"c/0",
+        base: b"c/0",
+        is: true,
+        is_climbed: true,
+    },
+    Row {
+        kind: b"c/0",
+        base: b"c/15",
+        is: true,
+        is_climbed: true,
+    },
+    Row {
+        kind: b"c/0",
+        base: b"c/16",
+        is: true,
+        is_climbed: true,
+    },
+    Row {
+        kind: b"c/0",
+        base: b"c/18",
+        is: true,
+        is_climbed: false,
+    },
+    Row {
+        kind: b"c/18",
+        base: b"c/17",
+        is: false,
+        is_climbed: true,
+    },
+    Row {
+        kind: b"x/first",
+        base: b"x/third",
+        is: true,
+        is_climbed: true,
+    },
+    Row {
+        kind: b"c/3",
+        base: b"x/third",
+        is: false,
+        is_climbed: false,
+    },
+    Row {
+        kind: b"d/bottom",
+        base: b"d/bottom",
+        is: true,
+        is_climbed: true,
+    },
+    Row {
+        kind: b"d/bottom",
+        base: b"d/left",
+        is: true,
+        is_climbed: false,
+    },
+    Row {
+        kind: b"d/below",
+        base: b"d/top",
+        is: true,
+        is_climbed: false,
+    },
+    Row {
+        kind: b"d/below",
+        base: b"d/bottom",
+        is: true,
+        is_climbed: true,
+    },
+    Row {
+        kind: b"d/right",
+        base: b"d/top",
+        is: true,
+        is_climbed: true,
+    },
+    Row {
+        kind: b"d/left",
+        base: b"d/top",
+        is: false,
+        is_climbed: true,
+    },
+    Row {
+        kind: b"l/a",
+        base: b"l/b",
+        is: true,
+        is_climbed: true,
+    },
+    Row {
+        kind: b"l/a",
+        base: b"l/c",
+        is: false,
+        is_climbed: false,
+    },
+    Row {
+        kind: b"text/x",
+        base: b"text/plain",
+        is: true,
+        is_climbed: true,
+    },
+    Row {
+        kind: b"inode/x",
+        base: b"application/octet-stream",
+        is: false,
+        is_climbed: true,
+    },
+];
+
+/// What is found over the bytes of a cache.
+fn found_in(
+    alloc: Global,
+    cache: &[u8],
+    kind: &[u8],
+    base: &[u8],
+) -> Result<Result<bool, Cause>, Fail> {
+    let kind = TypeName::new(alloc, kind)?;
+    let base = TypeName::new(alloc, base)?;
+    match is_a(alloc, Counted::new(cache), &kind, &base) {
+        Ok((is, _meter)) => Ok(Ok(is)),
+        Err(stopped) => Ok(Err(stopped.cause)),
+    }
+}
+
+/// What is found over a cache that was opened once.
+fn found_again(
+    alloc: Global,
+    indexed: &IndexedCache<'_>,
+    kind: &'static [u8],
+    base: &'static [u8],
+) -> Result<bool, Cause> {
+    match is_a_again(alloc, indexed, kind, base) {
+        Ok((is, _meter)) => Ok(is),
+        Err(stopped) => Err(stopped.cause),
+    }
+}
+
+#[test]
+fn pairs_read_back(rt: HostRuntime) -> Result<(), Fail> {
+    let alloc = rt.alloc();
+    let database = merged(alloc, &[SUBCLASSES])?;
+    let bytes = write_cache(alloc, &database, 4096)?;
+    let mut indexed = IndexedCache::open(Counted::new(&bytes), &mut Meter::new())?;
+    indexed.read_pairs(alloc, &mut Meter::new())?;
+    for row in &ROWS {
+        let walked = found_in(alloc, &bytes, row.kind, row.base)?;
+        alike(&rt, "bytes", (row.kind, walked), (row.kind, Ok(row.is)));
+        let (is, meter) = is_a_again(alloc, &indexed, row.kind, row.base)?;
+        let found = (row.kind, row.base, is, meter.nodes == 1);
+        alike(
+            &rt,
+            "read back",
+            found,
+            (row.kind, row.base, row.is, row.is_climbed),
+        );
+    }
+    Ok(())
+}
+
+/// Where a list spells nothing, the walk finds its fault.
+#[test]
+fn damaged_pairs(rt: HostRuntime) -> Result<(), Fail> {
+    let alloc = rt.alloc();
+    for at in [4, 8, 40, 52, 56, 60, 64, 68] {
+        let bytes = damaged(at);
+        let mut indexed = IndexedCache::open(Counted::new(&bytes), &mut Meter::new())?;
+        let read = indexed.read_pairs(alloc, &mut Meter::new()).err();
+        alike(&rt, "read back", (at, read), (at, Some(Unread::NotSpelled)));
+        let walked = found_in(alloc, &bytes, b"t/g", b"t/z")?;
+        let again = found_again(alloc, &indexed, b"t/g", b"t/z");
+        alike(&rt, "a fault", (at, walked.is_err()), (at, true));
+        alike(&rt, "found", (at, again), (at, walked));
+    }
+    Ok(())
+}
