@@ -1,5 +1,5 @@
 -- Marks of the names of pairs that were read back: one pair more, and what is so of a name without its mark.
-use Rattle.std.proofs.Common.{◌≡◌, ℕ, ◌+◌, ◌<◌, Bool, true, false, cond, List, [], ◌∷◌, length, get_or, set, map, take}
+use Rattle.std.proofs.Common.{◌≡◌, ℕ, ◌+◌, ◌<◌, Bool, true, false, List, [], ◌∷◌, length, get_or, set, map, take}
 use Rattle.std.proofs.Common.{refl, sym, ap, arith, ◌∙◌, bytes_eq, true≢false}
 use Rattle.std.specs.HashMap.{HashMap}
 use Rattle.std.specs.List.{All}

@@ -1,5 +1,5 @@
 -- The aliases and the parents of a cache that were read back are pairs that it spells.
-use Rattle.std.proofs.Common.{◌≡◌, ℕ, Bool, List, [], map, refl, subst, sym}
+use Rattle.std.proofs.Common.{ℕ, Bool, List, [], map, refl, subst, sym}
 use Rattle.std.specs.HashMap.{HashMap}
 use denote.Bor.{Bor}
 use Rattle.mime_base.specs.Database.{PlainDatabase, pairs_of}

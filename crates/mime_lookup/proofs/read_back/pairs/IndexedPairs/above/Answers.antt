@@ -1,4 +1,4 @@
-use Rattle.std.proofs.Common.{List, ℕ, ◌∙◌, ap, sym, subst}
+use Rattle.std.proofs.Common.{List, ℕ, ◌∙◌, sym, subst}
 use Rattle.mime_lookup.specs.PairsReadBack.{AreStepsOf}
 use Rattle.mime_lookup.proofs.SpellingLemmas.Steps.{none_spelled, steps_spelled}
 use Rattle.mime_lookup.proofs.read_back.pairs.IndexedPairs.above.Goals as goal

@@ -1,4 +1,4 @@
-use Rattle.std.proofs.Common.{◌≡◌, ℕ, List, map, subst}
+use Rattle.std.proofs.Common.{List, map, subst}
 use Rattle.mime_base.specs.Database.Subclass.{parents}
 use Rattle.mime_load.specs.Lent.{plain_pairs}
 use Rattle.mime_load.specs.declared.pair.LentPair.{LentPair}
