@@ -6,7 +6,7 @@ use crate::tests::sample::damaged;
 use crate::tests::texts::{EMPTY, Texts, merged};
 use mime_base::{Counted, Meter, TypeName};
 use mime_load::Unread;
-use mime_lookup::{Cause, IndexedCache, is_a, is_a_again};
+use mime_lookup::{Cause, IndexedCache, Stopped, is_a, is_a_again};
 use mime_store::write_cache;
 use std::alloc::Global;
 use std::test::Fail;
@@ -68,7 +68,7 @@ static ROWS: [Row; 17] = [
         kind: b"c/3",
         base: b"x/third",
         is: false,
-        is_climbed: false,
+        is_climbed: true,
     },
     Row {
         kind: b"d/bottom",
@@ -132,8 +132,16 @@ static ROWS: [Row; 17] = [
     },
 ];
 
-/// What is found over the bytes of a cache.
-fn found_in(
+/// What a search found, or why it stopped.
+fn told(found: Result<(bool, Meter), Stopped>) -> Result<bool, Cause> {
+    match found {
+        Ok((is, _meter)) => Ok(is),
+        Err(stopped) => Err(stopped.cause),
+    }
+}
+
+/// What a search over the bytes of a cache finds.
+fn search_bytes(
     alloc: Global,
     cache: &[u8],
     kind: &[u8],
@@ -141,23 +149,7 @@ fn found_in(
 ) -> Result<Result<bool, Cause>, Fail> {
     let kind = TypeName::new(alloc, kind)?;
     let base = TypeName::new(alloc, base)?;
-    match is_a(alloc, Counted::new(cache), &kind, &base) {
-        Ok((is, _meter)) => Ok(Ok(is)),
-        Err(stopped) => Ok(Err(stopped.cause)),
-    }
-}
-
-/// What is found over a cache that was opened once.
-fn found_again(
-    alloc: Global,
-    indexed: &IndexedCache<'_>,
-    kind: &'static [u8],
-    base: &'static [u8],
-) -> Result<bool, Cause> {
-    match is_a_again(alloc, indexed, kind, base) {
-        Ok((is, _meter)) => Ok(is),
-        Err(stopped) => Err(stopped.cause),
-    }
+    Ok(told(is_a(alloc, Counted::new(cache), &kind, &base)))
 }
 
 #[test]
@@ -168,7 +160,7 @@ fn pairs_read_back(rt: HostRuntime) -> Result<(), Fail> {
     let mut indexed = IndexedCache::open(Counted::new(&bytes), &mut Meter::new())?;
     indexed.read_pairs(alloc, &mut Meter::new())?;
     for row in &ROWS {
-        let walked = found_in(alloc, &bytes, row.kind, row.base)?;
+        let walked = search_bytes(alloc, &bytes, row.kind, row.base)?;
         alike(&rt, "bytes", (row.kind, walked), (row.kind, Ok(row.is)));
         let (is, meter) = is_a_again(alloc, &indexed, row.kind, row.base)?;
         let found = (row.kind, row.base, is, meter.nodes == 1);
@@ -191,8 +183,8 @@ fn damaged_pairs(rt: HostRuntime) -> Result<(), Fail> {
         let mut indexed = IndexedCache::open(Counted::new(&bytes), &mut Meter::new())?;
         let read = indexed.read_pairs(alloc, &mut Meter::new()).err();
         alike(&rt, "read back", (at, read), (at, Some(Unread::NotSpelled)));
-        let walked = found_in(alloc, &bytes, b"t/g", b"t/z")?;
-        let again = found_again(alloc, &indexed, b"t/g", b"t/z");
+        let walked = search_bytes(alloc, &bytes, b"t/g", b"t/z")?;
+        let again = told(is_a_again(alloc, &indexed, b"t/g", b"t/z"));
         alike(&rt, "a fault", (at, walked.is_err()), (at, true));
         alike(&rt, "found", (at, again), (at, walked));
     }
