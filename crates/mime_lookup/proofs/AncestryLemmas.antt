@@ -7,6 +7,7 @@ pub mod Marks
 pub mod MarkSets
 pub mod Searches
 pub mod Above
+pub mod OneParent
 pub mod MediaTypes
 pub mod PlaceMarks
 pub mod ParentSteps

@@ -12,7 +12,7 @@ ghost use Rattle.mime_lookup.specs.Ancestry.{AnswersSearch, Expanded, is_among, 
 ghost use Rattle.mime_lookup.specs.Choice.{IsFirst};
 ghost use Rattle.mime_lookup.specs.Places.{ArePlaced, placed};
 
-use crate::places::{PlacedPairs, places_of, push_parents};
+use crate::places::{PlacedPairs, placed_pairs, push_parents};
 use crate::queue::Queue;
 use crate::subclass::is_by_itself;
 use indexmap::IndexSet;
@@ -34,9 +34,7 @@ pub fn first_of<'a>(
     ensures first { IfOk result (λ kind. IsFirst (pairs_of (plain_database database.entry.now))
         base.now default.entry.now (kinds_of kinds.now) kind.now) }
 {
-    let aliases = places_of(alloc, &database.aliases)?;
-    let parents = places_of(alloc, &database.parents)?;
-    let both = PlacedPairs { aliases, parents };
+    let both = placed_pairs(alloc, database)?;
     let kind = first_at(alloc, &both, kinds, default, base, meter)?;
     Ok(kind)
 }

@@ -23,7 +23,7 @@ mod by_content;
 mod by_name;
 mod by_name_alone;
 mod content_alone;
-mod icons;
+pub mod icons;
 mod indexed_cache;
 mod magic_of;
 pub mod name_types;

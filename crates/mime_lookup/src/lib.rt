@@ -14,9 +14,9 @@
 //! one would be read. [`is_a`] and [`icon_of`] go by the same bytes. [`look_up_again`] is the lookup for
 //! many names and contents, over an [`IndexedCache`], and so are [`look_up_name_again`], [`sniff_again`], [`is_a_again`] and
 //! [`icon_again`]. A [`PaidCache`] is read back once its answers have paid for that.
-//! [`look_up_plain`] answers the same by trying every rule, line and pair of a database, and [`look_up_indexed`] and
-//! [`is_a_indexed`] by an [`IndexedDatabase`] that is made of one for many questions. A [`MagicIndex`] is made of the magic
-//! that was read back from a cache.
+//! [`look_up_plain`] answers the same by trying every rule, line and pair of a database, and so do [`is_a_plain`] and
+//! [`icon_of_plain`] for one question. [`look_up_indexed`] and [`is_a_indexed`] go by an [`IndexedDatabase`] that is made of
+//! one for many questions. A [`MagicIndex`] is made of the magic that was read back from a cache.
 //!
 //! Read `cached` first, which has the two halves of a lookup: `cached::by_name`, what a name gives by
 //! itself, and `cached::by_content`, what a front of the content then gives. Then what these take in
@@ -62,7 +62,9 @@ pub use indexed::look_up::look_up_indexed;
 pub use indexed::magic_index::MagicIndex;
 pub use indexed::subclass::is_a_indexed;
 pub use limits::LONGEST_NAME;
+pub use lists::icons::icon_of_plain;
 pub use lists::look_up_plain;
+pub use lists::subclass::is_a_plain;
 pub use order::Order;
 pub use reading::read_front;
 pub use script::{Script, Step};

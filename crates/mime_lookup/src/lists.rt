@@ -10,6 +10,9 @@ ghost use Rattle.mime_lookup.specs.LookUps.{ChoosesSome, IsPlainAnswer, cause_in
 ghost use Rattle.mime_lookup.specs.Reads.{AsksUnless, IsReadOrMemory, Reads};
 ghost use Rattle.mime_view.specs.Magic.{plain_found};
 
+pub mod icons;
+pub mod subclass;
+
 use crate::ancestry::first_of;
 use crate::answer::Answer;
 use crate::asked::Asked;

@@ -3,6 +3,7 @@
 pub mod marks;
 
 ghost use Rattle.std.specs.Prelude.{◌≡◌, ◌+◌, ◌<◌, ◌++◌, get_or, length, map, IfOk, OnOk};
+ghost use Rattle.mime_base.specs.Database.{pairs_of, plain_database};
 ghost use Rattle.mime_base.specs.Database.PlainPairs.{plain_pairs};
 ghost use Rattle.mime_base.specs.Database.Subclass as above;
 ghost use Rattle.mime_base.specs.declared.database.pair.Pair as plain;
@@ -12,7 +13,7 @@ ghost use Rattle.mime_lookup.specs.Places.{ArePlaced, IsAbove, IsPlaced, place_i
 use crate::places::marks::{MARKS, mark_of};
 use crate::queue::Queue;
 use indexmap::IndexMap;
-use mime_base::{OutOfMemory, Pair};
+use mime_base::{Database, OutOfMemory, Pair};
 use std::alloc::Global;
 
 /// Some pairs, with the place of each by its name.
@@ -73,6 +74,21 @@ pub fn places_of<'a>(alloc: Global, pairs: &'a [Pair]) -> Result<Places<'a>, Out
         first,
         next,
     })
+}
+
+/// The places of all pairs of a database.
+pub fn placed_pairs<'a>(
+    alloc: Global,
+    database: &'a Database,
+) -> Result<PlacedPairs<'a>, OutOfMemory>
+    // The places are of the database's pairs.
+    ensures pairs { IfOk result (λ both. placed both ≡ pairs_of (plain_database database.entry.now)) }
+    // They are those of all pairs.
+    ensures placed { IfOk result ArePlaced }
+{
+    let aliases = places_of(alloc, &database.aliases)?;
+    let parents = places_of(alloc, &database.parents)?;
+    Ok(PlacedPairs { aliases, parents })
 }
 
 /// The first place of a name, if it has one.

@@ -1,9 +1,10 @@
 -- One step of a scan over pairs or over marks.
 use Rattle.std.proofs.Common.{◌≡◌, ℕ, ◌+◌, ◌<◌, true, false, List, [], ◌∷◌, ◌++◌, length, get_or, drop, map, bytes_eq}
-use Rattle.std.proofs.Common.{refl, sym, ap, ◌∙◌, append_assoc}
+use Rattle.std.proofs.Common.{refl, sym, ap, ◌∙◌, append_assoc, Some}
 use Rattle.std.proofs.lemmas.List.{drop_more}
 use Rattle.mime_base.specs.Database.Subclass.{resolved, parents}
 use Rattle.mime_lookup.specs.Ancestry.{is_one_of}
+use Rattle.mime_view.specs.Pairs.{looked_up}
 
 -- the items from one on
 pub items_from : {X : Type 0} (xs : List X) (i : ℕ) (x : X) → i < length xs → x ≡ get_or xs i x → drop i xs ≡ x ∷ drop (i + 1) xs
@@ -42,6 +43,16 @@ parents-past name parent kind pairs miss = rw miss refl
 pub parents-nil : (kind : List ℕ) → parents [] kind ≡ []
 unfolding parents
 parents-nil kind = refl
+
+-- an icon of the type
+pub looked_up-here : (kind icon key : List ℕ) (pairs : List (List ℕ × List ℕ)) → bytes_eq kind key ≡ true →
+    looked_up ((kind, icon) ∷ pairs) key ≡ Some icon
+looked_up-here kind icon key pairs hit = rw hit refl
+
+-- an icon of another type is skipped
+pub looked_up-past : (kind icon key : List ℕ) (pairs : List (List ℕ × List ℕ)) → bytes_eq kind key ≡ false →
+    looked_up ((kind, icon) ∷ pairs) key ≡ looked_up pairs key
+looked_up-past kind icon key pairs miss = rw miss refl
 
 -- a mark that is the type, another, and none
 pub is_one_of-here : (mark kind : List ℕ) (marks : List (List ℕ)) → bytes_eq mark kind ≡ true → is_one_of (mark ∷ marks) kind ≡ true

@@ -145,7 +145,12 @@ fn find_icons<'k, 'a: 'k>(
 }
 
 /// The icon's name, else the type with a hyphen for each slash.
-fn icon_or_hyphens(alloc: Global, icon: Option<&[u8]>, kind: &[u8]) -> Result<Vec<u8>, OutOfMemory>
+pub fn icon_or_hyphens(
+    alloc: Global,
+    icon: Option<&[u8]>,
+    kind: &[u8],
+) -> Result<Vec<u8>, OutOfMemory>
+    // It is the name, where there is one.
     ensures { IfOk result (λ name. name.items ≡ name_or (option_map (λ text. text.now) icon.entry) (with_hyphens kind.now)) }
 {
     match icon {
@@ -173,7 +178,12 @@ fn hyphen_for_slash(byte: u8) -> u8
 }
 
 /// The generic icon's name, else what stands before the type's first slash, and `-x-generic`.
-fn generic_or_media(alloc: Global, icon: Option<&[u8]>, kind: &[u8]) -> Result<Vec<u8>, OutOfMemory>
+pub fn generic_or_media(
+    alloc: Global,
+    icon: Option<&[u8]>,
+    kind: &[u8],
+) -> Result<Vec<u8>, OutOfMemory>
+    // It is the name, where there is one.
     ensures { IfOk result (λ name. name.items ≡ name_or (option_map (λ text. text.now) icon.entry) (generic_of_media kind.now)) }
 {
     match icon {
