@@ -1,4 +1,5 @@
 -- Lemmas on runs: how parts of a command follow one another, and how they end.
+pub mod AnswersByData
 pub mod Commands
 pub mod Endings
 pub mod Ends
@@ -6,6 +7,7 @@ pub mod Fronts
 pub mod ListedRuns
 pub mod Loads
 pub mod Programs
+pub mod Questions
 pub mod Replies
 pub mod Runs
 pub mod SourceCommands

@@ -10,7 +10,7 @@ use Rattle.mime_tool.specs.Cache.{IsAnsweredOr, IsCacheRefusal}
 use Rattle.mime_tool.specs.Environment.{PlainEnvironment}
 use Rattle.mime_tool.specs.Files.{Stored}
 use Rattle.mime_tool.specs.Run.{Run, printed}
-use Rattle.mime_tool.specs.Sources.{IsSourceCommand}
+use Rattle.mime_tool.specs.Sources.{IsQuestion}
 use Rattle.mime_tool.specs.TypeNames.{IsRunOfTypes}
 
 -- `icon: NAME` and `generic: NAME`
@@ -33,7 +33,11 @@ AreIconLines cache kind run = (icons : PlainIcons) × AreIconsOf cache kind icon
 abbrev pub IsIconOver : List ℕ → List ℕ → List ℕ → List (List ℕ) → Run → Type 0
 IsIconOver path kind cache files run = IsAnsweredOr path (RefusesIcons cache) (AreIconLines cache kind) run
 
--- the run of `icon`: the word is looked at before the cache is read
+-- the run of `icon` over the database of directories
+abbrev pub IsIconBy : List ℕ → PlainDatabase → List (List ℕ) → Run → Type 0
+IsIconBy kind b files run = run ≡ printed (printed_icons (icons_of b kind))
+
+-- the run of `icon`: the word is looked at before anything is read
 abbrev pub IsIcon : (List ℕ → Stored) → Option PlainEnvironment → PlainSource → List ℕ → List (List ℕ) → Run → Type 0
 IsIcon stored environment source kind files =
-    IsRunOfTypes (kind ∷ []) (IsSourceCommand stored environment source (λ path. IsIconOver path kind) files)
+    IsRunOfTypes (kind ∷ []) (IsQuestion stored environment source (λ path. IsIconOver path kind) (IsIconBy kind) files)

@@ -1,5 +1,5 @@
 -- What `type` prints.
-use Rattle.std.specs.Prelude.{◌≡◌, ◌⊎◌, ℕ, Bool, true, false, List, [], ◌++◌, Option, None, Some, codes, decimal, length, ⊤}
+use Rattle.std.specs.Prelude.{◌≡◌, ◌⊎◌, ℕ, Bool, true, false, List, [], ◌++◌, Option, Some, codes, decimal, length, ⊤}
 use Rattle.mime_base.specs.Database.{PlainDatabase}
 use Rattle.mime_base.specs.Database.Limits.{IsWithinLimits}
 use Rattle.mime_base.specs.Format.Spells.{Spells}
@@ -15,14 +15,13 @@ use Rattle.mime_request.specs.Request.{PlainDirectories, PlainSource, PlainSubje
 use Rattle.mime_request.specs.declared.request.Options.{Options}
 use Rattle.mime_request.specs.declared.request.Output.{Output}
 use Rattle.mime_tool.specs.Cache.{IsAnsweredOr, IsCacheRefusal}
-use Rattle.mime_tool.specs.Directories.{IsCommand}
 use Rattle.mime_tool.specs.Files.{Stored}
 use Rattle.mime_tool.specs.Line.{IsTypeLine, PlainLookup, asked_order, name_for, with_inode}
 use Rattle.mime_tool.specs.Output.{type_line, written}
 use Rattle.mime_tool.specs.Plain.{AreTypeLines}
 use Rattle.mime_tool.specs.Process.{PlainProcess}
 use Rattle.mime_tool.specs.Run.{Run, cannot_read, printed, unanswered}
-use Rattle.mime_tool.specs.Sources.{IsOverFitting, IsSourceCommand}
+use Rattle.mime_tool.specs.Sources.{IsFittingCommand, IsSourceCommand}
 use Rattle.mime_tool.specs.Subjects.{AreSubjectRuns}
 
 -- what `--cost` reports of an answer: the records that were visited, the bytes that were compared, and those that were read
@@ -99,8 +98,7 @@ IsTypeByCache stored process source options subjects =
 abbrev pub IsTypeOver : Bool → (List ℕ → Stored) → PlainProcess → PlainDirectories → Options → PlainSubjects → List (List ℕ) → Run → Type 0
 IsTypeOver true stored process dirs options subjects = IsTypeByCache stored process (made_of dirs) options subjects
 IsTypeOver false stored process dirs options subjects =
-    IsCommand stored None process.environment dirs
-    (λ database. IsOverFitting (AreTypeLines subjects stored process.input options database) database)
+    IsFittingCommand stored process.environment dirs (AreTypeLines subjects stored process.input options)
 
 -- the run of `type` over what is asked with these options, for what is looked up
 abbrev pub IsType : (List ℕ → Stored) → PlainProcess → PlainSource → Options → PlainSubjects → List (List ℕ) → Run → Type 0

@@ -11,13 +11,11 @@ ghost use Rattle.mime_tool.specs.Subjects.{names_in};
 ghost use Rattle.mime_tool.specs.Words.{named_subjects};
 ghost use Rattle.std.specs.Prelude.{false};
 
-use crate::build::keep_fitting;
 use crate::desk::Desk;
-use crate::directories::load;
 use crate::line::{Data, Lookup, asked_order};
 use crate::plain::print_over;
 use crate::process::Process;
-use crate::sources::{path_of, read_source};
+use crate::sources::{load_fitting, path_of, read_source};
 use crate::stop::Stop;
 use crate::subjects::print_subjects;
 use crate::words::RawWord;
@@ -69,8 +67,7 @@ fn print_by_texts<D: Desk, I: Content + Drop>(
         input,
         to_terminal: _,
     } = process;
-    let database = load(desk, environment, directories, None)?;
-    keep_fitting(desk.alloc(), &database)?;
+    let database = load_fitting(desk, environment, directories)?;
     print_over(desk, &database, options, subjects, raws, input)
 }
 

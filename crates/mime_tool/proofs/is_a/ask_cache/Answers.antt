@@ -4,7 +4,7 @@ use Rattle.mime_lookup.specs.StepFaults.{IsSubclassFault}
 use Rattle.mime_tool.specs.IsA.{IsSaid}
 use Rattle.mime_tool.proofs.CacheLemmas.Caches.{stopped_refused}
 use Rattle.mime_tool.proofs.CacheLemmas.Spelled.{spelled_pairs}
-use Rattle.mime_tool.proofs.is_a.ask.Goals as goal
+use Rattle.mime_tool.proofs.is_a.ask_cache.Goals as goal
 
 pub returns-in-Ok : goal.returns-in-Ok
 returns-in-Ok c =

@@ -5,7 +5,7 @@ use Rattle.mime_lookup.specs.declared.cached.icons.Icons.{Icons}
 use Rattle.mime_tool.specs.Icon.{AreIconsOf}
 use Rattle.mime_tool.proofs.CacheLemmas.Caches.{stopped_refused}
 use Rattle.mime_tool.proofs.CacheLemmas.Spelled.{spelled_icons}
-use Rattle.mime_tool.proofs.icon.ask.Goals as goal
+use Rattle.mime_tool.proofs.icon.ask_cache.Goals as goal
 
 pub returns-in-Ok : goal.returns-in-Ok
 returns-in-Ok c =
