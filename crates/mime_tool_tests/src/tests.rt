@@ -8,6 +8,7 @@ mod from_texts;
 mod inodes;
 mod input;
 mod listed;
+mod questions;
 mod ran;
 mod rows;
 mod sources;

@@ -1,4 +1,4 @@
-//! Icons and subclasses of types by caches, as they were made, written and damaged.
+//! Icons and subclasses of types: by caches, as they were made, written and damaged, and by databases.
 //!
 //! The sample's header has the offset of the icons at 32 and that of the generic icons at 36. The parents
 //! of `t/g`, its one type that has any, stand at 64.
@@ -6,10 +6,10 @@
 use crate::tests::checked::alike;
 use crate::tests::sample::{SAMPLE, SAMPLE_TEXTS, changed, damaged, write_at};
 use crate::tests::texts::{EMPTY, Texts, merged};
-use mime_base::{Counted, Meter, TypeName};
+use mime_base::{Counted, Database, Meter, TypeName};
 use mime_lookup::{
-    Cause, Icons, IndexedCache, IndexedDatabase, icon_again, icon_of, is_a, is_a_again,
-    is_a_indexed,
+    Cause, Icons, IndexedCache, IndexedDatabase, icon_again, icon_of, icon_of_plain, is_a,
+    is_a_again, is_a_indexed, is_a_plain,
 };
 use mime_store::write_cache;
 use mime_view::CacheFault;
@@ -97,6 +97,26 @@ fn icons_that_are_named(rt: HostRuntime) -> Result<(), Fail> {
     for row in &WRITTEN {
         let same = has_icons(rt.alloc(), &bytes, row)?;
         alike(&rt, "icons", (row.kind, same), (row.kind, true));
+    }
+    Ok(())
+}
+
+/// Whether the icons of a type are those of a row, by a database.
+fn has_icons_over(alloc: Global, database: &Database, row: &IconRow) -> Result<bool, Fail> {
+    let kind = TypeName::new(alloc, row.kind)?;
+    let icons = icon_of_plain(alloc, database, &kind)?;
+    Ok(are_icons(&icons, row))
+}
+
+#[test]
+fn icons_by_a_database(rt: HostRuntime) -> Result<(), Fail> {
+    let tables = [(SAMPLE_TEXTS, &OF_THE_SAMPLE), (WITH_ICONS, &WRITTEN)];
+    for (texts, rows) in tables {
+        let database = merged(rt.alloc(), &[texts])?;
+        for row in rows {
+            let same = has_icons_over(rt.alloc(), &database, row)?;
+            alike(&rt, "icons", (row.kind, same), (row.kind, true));
+        }
     }
     Ok(())
 }
@@ -226,30 +246,62 @@ fn leads_at(
     Ok(found)
 }
 
+/// Whether a type is another or a subclass of it, by a database.
+fn leads_over(alloc: Global, database: &Database, kind: &[u8], base: &[u8]) -> Result<bool, Fail> {
+    let kind = TypeName::new(alloc, kind)?;
+    let base = TypeName::new(alloc, base)?;
+    leads_among(alloc, database, &kind, &base)
+}
+
+/// The same of types.
+fn leads_among(
+    alloc: Global,
+    database: &Database,
+    kind: &TypeName,
+    base: &TypeName,
+) -> Result<bool, Fail> {
+    let (found, _meter) = is_a_plain(alloc, database, kind, base)?;
+    Ok(found)
+}
+
+/// Types, bases, and whether the one is the other or a subclass of it.
+static SUBCLASS_ROWS: [(&[u8], &[u8], bool); 18] = [
+    (b"c/0", b"c/0", true),
+    (b"c/0", b"c/1", true),
+    (b"c/0", b"c/15", true),
+    (b"c/0", b"c/16", true),
+    (b"c/0", b"c/17", true),
+    (b"c/0", b"c/18", true),
+    (b"c/18", b"c/17", false),
+    (b"c/0", b"d/top", false),
+    (b"x/first", b"x/third", true),
+    (b"c/3", b"x/third", false),
+    (b"d/bottom", b"d/top", true),
+    (b"d/bottom", b"d/left", true),
+    (b"d/bottom", b"c/0", false),
+    (b"d/left", b"d/top", false),
+    (b"l/a", b"l/b", true),
+    (b"l/a", b"l/c", false),
+    (b"text/x", b"text/plain", true),
+    (b"inode/x", b"application/octet-stream", false),
+];
+
 #[test]
 fn subclasses_by_an_index(rt: HostRuntime) -> Result<(), Fail> {
-    let rows: [(&[u8], &[u8], bool); 16] = [
-        (b"c/0", b"c/0", true),
-        (b"c/0", b"c/1", true),
-        (b"c/0", b"c/15", true),
-        (b"c/0", b"c/16", true),
-        (b"c/0", b"c/17", true),
-        (b"c/0", b"c/18", true),
-        (b"c/18", b"c/17", false),
-        (b"c/0", b"d/top", false),
-        (b"x/first", b"x/third", true),
-        (b"c/3", b"x/third", false),
-        (b"d/bottom", b"d/top", true),
-        (b"d/left", b"d/top", false),
-        (b"l/a", b"l/b", true),
-        (b"l/a", b"l/c", false),
-        (b"text/x", b"text/plain", true),
-        (b"inode/x", b"application/octet-stream", false),
-    ];
     let database = merged(rt.alloc(), &[SUBCLASSES])?;
     let index = IndexedDatabase::new(rt.alloc(), &database)?;
-    for (kind, base, is) in rows {
+    for &(kind, base, is) in &SUBCLASS_ROWS {
         let found = leads_by_index(rt.alloc(), &index, kind, base)?;
+        alike(&rt, "is a", (kind, base, found), (kind, base, is));
+    }
+    Ok(())
+}
+
+#[test]
+fn subclasses_by_a_database(rt: HostRuntime) -> Result<(), Fail> {
+    let database = merged(rt.alloc(), &[SUBCLASSES])?;
+    for &(kind, base, is) in &SUBCLASS_ROWS {
+        let found = leads_over(rt.alloc(), &database, kind, base)?;
         alike(&rt, "is a", (kind, base, found), (kind, base, is));
     }
     Ok(())

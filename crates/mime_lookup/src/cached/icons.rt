@@ -150,7 +150,7 @@ pub fn icon_or_hyphens(
     icon: Option<&[u8]>,
     kind: &[u8],
 ) -> Result<Vec<u8>, OutOfMemory>
-    // It is the name, where there is one.
+    // It is that name, or the type with a hyphen for each slash.
     ensures { IfOk result (λ name. name.items ≡ name_or (option_map (λ text. text.now) icon.entry) (with_hyphens kind.now)) }
 {
     match icon {
@@ -183,7 +183,7 @@ pub fn generic_or_media(
     icon: Option<&[u8]>,
     kind: &[u8],
 ) -> Result<Vec<u8>, OutOfMemory>
-    // It is the name, where there is one.
+    // It is that name, or what stands before the type's first slash, and `-x-generic`.
     ensures { IfOk result (λ name. name.items ≡ name_or (option_map (λ text. text.now) icon.entry) (generic_of_media kind.now)) }
 {
     match icon {

@@ -13,14 +13,14 @@ use crate::subclass::is_by_itself;
 use mime_base::{Database, Meter, OutOfMemory, Pair, TypeName};
 use std::alloc::Global;
 
-/// How many steps up are made through all pairs, before the places of pairs are found.
+/// How many steps up are made through all pairs, before the places of pairs are looked up.
 const STEPS: u32 = 16;
 
 /// Whether a type is another or a subclass of it, over a database ("Subclassing"), and what was compared.
 ///
-/// Both types are resolved by one alias step first. Nothing is made of the database for it while each type has one parent, so it is the
-/// way for one question; [`crate::is_a_indexed`] is that for many. The meter counts what is compared with the base and no record.
-/// Memory is refused only where a type has several parents, or is more than 16 steps below one that has none.
+/// Both types are resolved by one alias step first. While each type has one parent, that is looked for among all pairs, at most 16
+/// times; then the search goes on by the places of all pairs, for which alone memory is taken. So it is the way for one question, and
+/// [`crate::is_a_indexed`] the one for many. The meter counts what is compared with the base.
 pub fn is_a_plain<'a>(
     alloc: Global,
     database: &'a Database,

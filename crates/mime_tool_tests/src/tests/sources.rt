@@ -140,7 +140,7 @@ static NAMED: [Row; 12] = [
     },
 ];
 
-static USERS: [Row; 8] = [
+static USERS: [Row; 11] = [
     Row {
         name: "no variable",
         words: &["list"],
@@ -203,6 +203,16 @@ static USERS: [Row; 8] = [
         ..ROW
     },
     Row {
+        name: "isa by the user's directories",
+        words: &["isa", "t/h", "t/m"],
+        environment: Some(Environment {
+            data_dirs: Some("/s"),
+            ..UNSET
+        }),
+        out: "yes\n",
+        ..ROW
+    },
+    Row {
         name: "a variable that is no text",
         words: &["type", "gzipped"],
         environment: None,
@@ -213,6 +223,22 @@ static USERS: [Row; 8] = [
     Row {
         name: "the same of build",
         words: &["build", "-o", "c"],
+        environment: None,
+        status: 3,
+        err: NOT_TEXT,
+        ..ROW
+    },
+    Row {
+        name: "the same of isa",
+        words: &["isa", "t/h", "t/m"],
+        environment: None,
+        status: 3,
+        err: NOT_TEXT,
+        ..ROW
+    },
+    Row {
+        name: "the same of icon",
+        words: &["icon", "t/h"],
         environment: None,
         status: 3,
         err: NOT_TEXT,
