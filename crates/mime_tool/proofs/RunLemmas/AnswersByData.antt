@@ -18,8 +18,8 @@ says_by kind base (data_of.Database database) says p files = (says, p, refl)
 
 -- lines of icons that are given are the run of `icon`
 pub icons_by_data : (kind : List ℕ) (given : SourceData) (icons : Icons)
-    → GivesByData RefusesIcons (λ cache icons. AreIconsOf cache kind (plain_icons_of icons)) (λ b icons. plain_icons_of icons ≡ icons_of b kind)
-    given (Ok icons)
+    → GivesByData RefusesIcons (λ cache icons. AreIconsOf cache kind (plain_icons_of icons))
+    (λ b icons. plain_icons_of icons ≡ icons_of b kind) given (Ok icons)
     → (files : List (List ℕ))
     → IsByData (λ path. IsIconOver path kind) (IsIconBy kind) given files (printed (printed_icons (plain_icons_of icons)))
 icons_by_data kind (data_of.Cache path bytes) icons p files = inl (plain_icons_of icons, p, refl)

@@ -52,7 +52,8 @@ module _ (stored : List ℕ → Stored) (e : Option PlainEnvironment) where
     data_unread (made_of dirs) a b s p = fitting_unloaded dirs IsByDatabase files a b s p
 
     -- a cache or a database is, and a run by it comes to its end
-    pub data_read : (source : PlainSource) (given : SourceData) (a b c : Sinks) (r : Result ℕ Stop) → ReadsData stored e source a b (Ok given)
+    pub data_read : (source : PlainSource) (given : SourceData) (a b c : Sinks) (r : Result ℕ Stop)
+        → ReadsData stored e source a b (Ok given)
         → EndsOverFiles (IsByData IsByCache IsByDatabase given) files b c r
         → EndsOverFiles (IsQuestion stored e source IsByCache IsByDatabase) files a c r
     data_read (cache_of path) (data_of.Cache at bytes) a b c r p q =
@@ -64,8 +65,8 @@ module _ (stored : List ℕ → Stored) (e : Option PlainEnvironment) where
 
 -- nothing is given by what was read
 pub data_unasked : (X : Type 0) (IsRefusedFor : List ℕ → CacheFault → Type 0) (IsGivenBy : List ℕ → X → Type 0)
-    (IsGivenOf : PlainDatabase → X → Type 0) (IsAnswered : List ℕ → Run → Type 0) (IsByDatabase : Over) (given : SourceData) (a : Sinks) (s : Stop)
-    → GivesByData IsRefusedFor IsGivenBy IsGivenOf given (Err s)
+    (IsGivenOf : PlainDatabase → X → Type 0) (IsAnswered : List ℕ → Run → Type 0) (IsByDatabase : Over) (given : SourceData) (a : Sinks)
+    (s : Stop) → GivesByData IsRefusedFor IsGivenBy IsGivenOf given (Err s)
     → EndsOverFiles (IsByData (λ path cache _. IsAnsweredOr path (IsRefusedFor cache) (IsAnswered cache)) IsByDatabase given) [] a a (Err s)
 data_unasked X IsRefusedFor IsGivenBy IsGivenOf IsAnswered IsByDatabase (data_of.Cache path bytes) a s p =
     cache_refused X path.now (IsRefusedFor bytes.items) (IsGivenBy bytes.items) (IsAnswered bytes.items) a s p

@@ -28,6 +28,6 @@ returns g c =
     record {
       same_files = told.same_files;
       same_setting = told.same_setting;
-      sinks = data_asked (λ path. IsIconOver path kind) (IsIconBy kind) c.args.given.now (printed (printed_icons (plain_icons_of icons))) _ _ _
-          (icons_by_data kind c.args.given.now icons c.in_ok-icons.ensures) told.sinks;
+      sinks = data_asked (λ path. IsIconOver path kind) (IsIconBy kind) c.args.given.now
+          (printed (printed_icons (plain_icons_of icons))) _ _ _ (icons_by_data kind c.args.given.now icons c.in_ok-icons.ensures) told.sinks;
     }

@@ -12,7 +12,8 @@ returns-then-is_same c =
     let from = items_from c.args.icons.now c.loop-icon.icon-index icon c.loop-icon-test.true c.icon-item.is in
     let same : bytes_eq icon.kind c.args.kind.now ≡ true = rw c.bytes.ensures.text at (sym c.is_same.ensures ∙ c.if-is_same.true) in
     ap Some c.bytes-then-is_same.ensures.text
-    ∙ sym (c.loop-icon.invariant ∙ ap (λ is. looked_up (plain_icons is) c.args.kind.now) from ∙ looked_up-here icon.kind icon.name c.args.kind.now rest same)
+    ∙ sym (c.loop-icon.invariant ∙ ap (λ is. looked_up (plain_icons is) c.args.kind.now) from
+    ∙ looked_up-here icon.kind icon.name c.args.kind.now rest same)
 
 pub loop-icon-preserved : goal.loop-icon-preserved
 loop-icon-preserved c =
@@ -20,7 +21,8 @@ loop-icon-preserved c =
     let rest = plain_icons (drop (c.loop-icon.icon-index + 1) c.args.icons.now) in
     let from = items_from c.args.icons.now c.loop-icon.icon-index icon c.loop-icon-test.true c.icon-item.is in
     let other : bytes_eq icon.kind c.args.kind.now ≡ false = rw c.bytes.ensures.text at (sym c.is_same.ensures ∙ c.if-is_same.false) in
-    c.loop-icon.invariant ∙ ap (λ is. looked_up (plain_icons is) c.args.kind.now) from ∙ looked_up-past icon.kind icon.name c.args.kind.now rest other
+    c.loop-icon.invariant ∙ ap (λ is. looked_up (plain_icons is) c.args.kind.now) from
+    ∙ looked_up-past icon.kind icon.name c.args.kind.now rest other
 
 pub returns : goal.returns
 returns c =
