@@ -1,39 +1,64 @@
 -- Lines of a cache that hold, in the steps of a pass over them.
-use Rattle.std.proofs.Common.{◌≡◌, ℕ, ◌+◌, ◌<◌, ◌||◌, true, List, ◌∷◌, length, get_or, drop, sym, ap, ◌∙◌, arith}
-use Rattle.std.proofs.lemmas.List.{drop_more, length-map}
-use Rattle.mime_base.specs.Magic.Holds.{equals_from, line_holds, some_holds}
-use Rattle.mime_base.specs.Magic.{PlainMatchlet, forest_of}
+use Rattle.std.proofs.Common.{◌≡◌, ℕ, ◌<◌, ◌||◌, false, true, List, [], ◌∷◌, length, take, refl, ap, ◌∙◌, sym, arith, length-drop}
+use Rattle.std.proofs.lemmas.Bool.{or_left}
+use Rattle.mime_base.specs.Magic.Holds.{equals_from, is_bare, line_holds, some_holds}
+use Rattle.mime_base.specs.Magic.{Forest}
 use Rattle.mime_base.specs.declared.magic.host.Host.{Host}
-use Rattle.mime_base.proofs.MagicLemmas.HoldingLines.{holds-alone, holds-parent, some_holds-line}
-use Rattle.mime_load.specs.Lent.{plain_line, plain_lines}
+use Rattle.mime_base.proofs.MagicLemmas.HoldingLines.{line_holds-differs, line_holds-equals, some_holds-line, some_holds-none}
+use Rattle.mime_load.specs.Lent.{behind_first, first_of, lent_forest, plain_line}
 use Rattle.mime_load.specs.declared.line.LentLine.{LentLine}
-use Rattle.mime_load.specs.declared.line.LentLine.TheViews.{out-LentLine}
-use Rattle.mime_load.proofs.Extents.{plain_line-out}
+use Rattle.mime_load.proofs.FlatLines.{lent_forest-line, lent_forest-none}
 
--- the children of a line
-children_of : (m : LentLine) → (plain_line m).children ≡ forest_of (plain_lines (out-LentLine m).children.items)
-children_of m = ap (λ (p : PlainMatchlet). p.children) (plain_line-out m)
+-- a forest of no lines is bare
+is_bare-none : (lines : List LentLine) → length lines ≡ 0 → is_bare (lent_forest lines) ≡ true
+is_bare-none [] none = ap is_bare lent_forest-none
+is_bare-none (m ∷ lines) none = absurd (omega arith)
+
+-- a forest of some lines is not
+is_bare-some : (lines : List LentLine) → 0 < length lines → is_bare (lent_forest lines) ≡ false
+is_bare-some [] some = absurd (omega arith)
+is_bare-some (m ∷ lines) some = ap is_bare (lent_forest-line m lines)
+
+-- behind the first line there are fewer
+pub length-behind_first : (lines : List LentLine) → 0 < length lines → length (behind_first lines) < length lines
+length-behind_first [] some = absurd (omega arith)
+length-behind_first (m ∷ lines) some = omega (arith, length-drop m.below lines)
 
 module _ (content : List ℕ) (host : Host) where
-  -- the lines from one on
-  pub some_holds-from : (lines : List LentLine) (i : ℕ) (m : LentLine) → i < length lines → m ≡ get_or lines i m →
-      some_holds (forest_of (plain_lines (drop i lines))) content host
-      ≡ (line_holds (plain_line m) content host || some_holds (forest_of (plain_lines (drop (i + 1) lines))) content host)
-  some_holds-from lines i m within is =
-      ap (λ ms. some_holds (forest_of (plain_lines ms)) content host)
-      (drop_more lines i m within ∙ ap (λ first. first ∷ drop (i + 1) lines) (sym is))
-      ∙ some_holds-line content host (plain_line m) (forest_of (plain_lines (drop (i + 1) lines)))
+  -- without a line none holds
+  first_of-none : line_holds (first_of []) content host ≡ false
+  unfolding equals_from
+  first_of-none = line_holds-differs content host (first_of []) refl
 
-  module _ (m : LentLine) (equal : equals_from (plain_line m).own host content (plain_line m).own.start (plain_line m).own.range ≡ true) where
-    -- a line without children that equals its value holds
-    pub line_holds-alone : length (out-LentLine m).children.items ≡ 0 → line_holds (plain_line m) content host ≡ true
-    line_holds-alone alone =
-        holds-alone content host (plain_line m) (plain_lines (out-LentLine m).children.items) (children_of m) equal
-        (length-map (out-LentLine m).children.items plain_line ∙ alone)
+  -- where there is no line
+  pub first_of-empty : (lines : List LentLine) → length lines ≡ 0 → line_holds (first_of lines) content host ≡ false
+  first_of-empty [] none = first_of-none
+  first_of-empty (m ∷ lines) none = absurd (omega arith)
 
-    -- one with children holds if some child does
-    pub line_holds-parent : 0 < length (out-LentLine m).children.items →
-        line_holds (plain_line m) content host ≡ some_holds (forest_of (plain_lines (out-LentLine m).children.items)) content host
-    line_holds-parent some =
-        holds-parent content host (plain_line m) (plain_lines (out-LentLine m).children.items) (children_of m) equal
-        (omega (arith, some, length-map (out-LentLine m).children.items plain_line))
+  -- of lines the first holds, or one of those behind it and those below it
+  pub some_holds-first : (lines : List LentLine) → some_holds (lent_forest lines) content host
+      ≡ (line_holds (first_of lines) content host || some_holds (lent_forest (behind_first lines)) content host)
+  some_holds-first [] =
+      ap (λ b. b || some_holds (lent_forest []) content host) (sym first_of-none)
+  some_holds-first (m ∷ lines) =
+      ap (λ (f : Forest). some_holds f content host) (lent_forest-line m lines)
+      ∙ some_holds-line content host (first_of (m ∷ lines)) (lent_forest (behind_first (m ∷ lines)))
+
+  -- of no lines none holds
+  pub some_holds-nothing : (lines : List LentLine) → length lines ≡ 0 → some_holds (lent_forest lines) content host ≡ false
+  some_holds-nothing [] none = ap (λ (f : Forest). some_holds f content host) lent_forest-none ∙ some_holds-none content host
+  some_holds-nothing (m ∷ lines) none = absurd (omega arith)
+
+  module _ (m : LentLine) (lines : List LentLine)
+      (equal : equals_from (plain_line m) host content (plain_line m).start (plain_line m).range ≡ true) where
+    -- a line with none below it that equals its value holds
+    pub first_holds-alone : length (take m.below lines) ≡ 0 → line_holds (first_of (m ∷ lines)) content host ≡ true
+    first_holds-alone alone =
+        line_holds-equals content host (first_of (m ∷ lines)) equal ∙ or_left _ _ (is_bare-none (take m.below lines) alone)
+
+    -- one with some below it holds if some child does
+    pub first_holds-parent : 0 < length (take m.below lines) →
+        line_holds (first_of (m ∷ lines)) content host ≡ some_holds (lent_forest (take m.below lines)) content host
+    first_holds-parent some =
+        line_holds-equals content host (first_of (m ∷ lines)) equal
+        ∙ ap (λ b. b || some_holds (lent_forest (take m.below lines)) content host) (is_bare-some (take m.below lines) some)

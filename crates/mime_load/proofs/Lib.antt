@@ -1,6 +1,10 @@
+pub mod AddedLines
+pub mod AddedSections
 pub mod EndedTrees
 pub mod Extents
+pub mod FlatLines
 pub mod HoldingLines
+pub mod JoinedLines
 pub mod JoinedRules
 pub mod LineLemmas
 pub mod MagicAlone
@@ -21,6 +25,7 @@ pub mod RulesAlone
 pub mod RulesRead
 pub mod SameLemmas
 pub mod SectionLemmas
+pub mod SetEntries
 pub mod SiblingCounts
 pub mod SiblingsRead
 pub mod Spelled

@@ -9,13 +9,13 @@ use Rattle.mime_base.specs.Format.Parents.{ParentsAt}
 use Rattle.mime_base.specs.Format.SuffixTree.{tree_size}
 use Rattle.mime_base.specs.declared.database.lent.LentRule.{LentRule}
 use Rattle.mime_load.specs.FirstUnread.{PartStands, PartsStand, before}
-use Rattle.mime_load.specs.Lent.{plain_leaves, plain_pair, plain_pairs, plain_rules, plain_sections}
+use Rattle.mime_load.specs.Lent.{plain_leaves, plain_magic, plain_pair, plain_pairs, plain_rules}
 use Rattle.mime_load.specs.MagicStanding.{MagicStands}
 use Rattle.mime_load.specs.Parts.{IsGlobList, IsLiteralList, IsTreeList}
 use Rattle.mime_load.specs.declared.leaf.LeafRule.{LeafRule}
 use Rattle.mime_load.specs.declared.pair.LentPair.{LentPair}
 use Rattle.mime_load.specs.declared.part.Part.TheVariants.{Aliases, Subclasses, Literals, Suffixes, Globs, Magic, Icons, GenericIcons}
-use Rattle.mime_load.specs.declared.section.LentSection.{LentSection}
+use Rattle.mime_load.specs.declared.magic.LentMagic.{LentMagic}
 
 module _ (c numbers : List ℕ) (old new : ℕ) where
   -- aliases, which take none
@@ -44,10 +44,10 @@ module _ (c numbers : List ℕ) (old new : ℕ) where
   read_globs items stand taken = (plain_rules items, stand, omega (arith, taken, length-map items plain_rule))
 
   -- sections
-  pub read_sections : (items : List LentSection) → MagicStands c (slice_index numbers 6) (plain_sections items)
-      → value_length (plain_sections items) ≤ length c
-      → new + (16 * length (plain_sections items) + 32 * matchlet_count (plain_sections items)) ≡ old → PartStands c numbers Magic old new
-  read_sections items stand values taken = (plain_sections items, stand, values, taken)
+  pub read_sections : (magic : LentMagic) → MagicStands c (slice_index numbers 6) (plain_magic magic)
+      → value_length (plain_magic magic) ≤ length c
+      → new + (16 * length (plain_magic magic) + 32 * matchlet_count (plain_magic magic)) ≡ old → PartStands c numbers Magic old new
+  read_sections magic stand values taken = (plain_magic magic, stand, values, taken)
 
   -- icons
   pub read_icons : (items : List LentPair) → PairsAt (Stands c) (slice_index numbers 8) (plain_pairs items)

@@ -6,7 +6,7 @@ use Rattle.mime_base.specs.Cache.Bytes.{Stands, card_bytes, cards, fields, value
 use Rattle.mime_base.specs.Format.Magic.{MaskAt, line_count, line_numbers, width}
 use Rattle.mime_base.specs.Format.Packed.{forest_value_length}
 use Rattle.mime_base.specs.Format.Records.{CardsAt}
-use Rattle.mime_base.specs.Magic.{Forest, PlainLine, PlainMatchlet, are_allowed, bare, fits_mask, forest_of, is_allowed, line, line_from}
+use Rattle.mime_base.specs.Magic.{Forest, PlainLine, are_allowed, bare, fits_mask, is_allowed, line, line_from}
 use Rattle.mime_base.proofs.CacheLemmas.Numbers.{fields-standing, length-card_bytes}
 use Rattle.mime_base.proofs.CacheLemmas.Standing.{Stands-inside, value_at-standing}
 use Rattle.mime_load.specs.MagicStanding.{ForestStands, LineStands, is_spellable}
@@ -170,11 +170,11 @@ alone c at below own children rest h =
     }
 
 -- there is a next one
-pub next_line : (c : List ℕ) (at levels i there : ℕ) (xs : List PlainMatchlet) (f : Forest) → length xs ≡ i → i < width f
-    → there ≡ at + 32 * i → ForestStands c at levels (forest_of xs) → ForestStands c at levels f → NextLine c there levels f (forest_of xs)
-next_line c at levels i there xs bare size within place read stands = absurd (omega arith)
-next_line c at zero i there xs (line own children rest) size within place read stands = let no = stands.allowed in absurd (cc)
-next_line c at (suc below) i there [] (line own children rest) size within place read stands =
+pub next_line : (c : List ℕ) (at levels i there : ℕ) (f g : Forest) → width f ≡ i → i < width g
+    → there ≡ at + 32 * i → ForestStands c at levels f → ForestStands c at levels g → NextLine c there levels g f
+next_line c at levels i there f bare size within place read stands = absurd (omega arith)
+next_line c at zero i there f (line own children rest) size within place read stands = let no = stands.allowed in absurd (cc)
+next_line c at (suc below) i there bare (line own children rest) size within place read stands =
     let here : at ≡ there = omega arith in
     record {
       own = own;
@@ -183,16 +183,16 @@ next_line c at (suc below) i there [] (line own children rest) size within place
       records = omega arith;
       value_bytes = omega arith;
     }
-next_line c at (suc below) i there (x ∷ xs) (line own children rest) size within place read stands =
-    let a = opened c at below x.own x.children (forest_of xs) read in
+next_line c at (suc below) i there (line own' children' rest') (line own children rest) size within place read stands =
+    let a = opened c at below own' children' rest' read in
     let b = opened c at below own children rest stands in
-    let same = same_line c at x.own own (width x.children) a.first (width children) b.first a.here b.here in
-    let below_same = same_lines c a.first below x.children children same.count a.deeper
+    let same = same_line c at own' own (width children') a.first (width children) b.first a.here b.here in
+    let below_same = same_lines c a.first below children' children same.count a.deeper
     (subst (λ (y : ℕ). ForestStands c y below children) (sym same.place) b.deeper) in
-    let next = next_line c (at + 32) (suc below) (i - 1) there xs rest (omega arith) (omega arith) (omega arith) a.behind b.behind in
-    let counts : line_count x.children ≡ line_count children = ap line_count below_same in
-    let values : forest_value_length x.children ≡ forest_value_length children = ap forest_value_length below_same in
-    let own_values : length x.own.value ≡ length own.value = ap (λ (l : PlainLine). length l.value) same.line in
+    let next = next_line c (at + 32) (suc below) (i - 1) there rest' rest (omega arith) (omega arith) (omega arith) a.behind b.behind in
+    let counts : line_count children' ≡ line_count children = ap line_count below_same in
+    let values : forest_value_length children' ≡ forest_value_length children = ap forest_value_length below_same in
+    let own_values : length own'.value ≡ length own.value = ap (λ (l : PlainLine). length l.value) same.line in
     record {
       own = next.own;
       children = next.children;

@@ -12,7 +12,7 @@ use Rattle.mime_base.specs.Format.SuffixTree.{tree_size}
 use Rattle.mime_base.specs.Format.Spells.{Spells}
 use Rattle.mime_base.specs.declared.database.rule.GlobRule.{GlobRule}
 use Rattle.mime_base.specs.Database.Lent.{plain_rule}
-use Rattle.mime_load.specs.Lent.{plain_leaves, plain_lists, plain_pair, plain_pairs, plain_rules, plain_sections}
+use Rattle.mime_load.specs.Lent.{plain_leaves, plain_lists, plain_magic, plain_pair, plain_pairs, plain_rules}
 use Rattle.mime_load.specs.MagicStanding.{MagicStands}
 use Rattle.mime_load.specs.Parts.{IsGlobList, IsLiteralList, IsTreeList}
 use Rattle.mime_load.specs.Whole.{IsHeader}
@@ -64,7 +64,7 @@ module _ (c numbers : List ℕ) (b : Lists) (header : IsHeader c numbers)
     (literals : IsLiteralList c (slice_index numbers 3) (plain_rules b.literals.items))
     (tree : IsTreeList c (slice_index numbers 4) (plain_leaves b.leaves.items))
     (globs : IsGlobList c (slice_index numbers 5) (plain_rules b.globs.items))
-    (magic : MagicStands c (slice_index numbers 6) (plain_sections b.sections.items))
+    (magic : MagicStands c (slice_index numbers 6) (plain_magic b.magic))
     (icons : PairsAt (Stands c) (slice_index numbers 8) (plain_pairs b.icons.items))
     (generic : PairsAt (Stands c) (slice_index numbers 9) (plain_pairs b.generic_icons.items)) where
   -- all rules
@@ -102,7 +102,7 @@ module _ (c numbers : List ℕ) (b : Lists) (header : IsHeader c numbers)
   -- their records
   pub sized : record_bytes (plain_lists b)
       ≡ 12 * (length b.literals.items + length b.globs.items + tree_size (plain_leaves b.leaves.items))
-      + 16 * length (plain_sections b.sections.items) + 32 * matchlet_count (plain_sections b.sections.items)
+      + 16 * length (plain_magic b.magic) + 32 * matchlet_count (plain_magic b.magic)
       + 4 * length b.parents.items + 8 * (length b.icons.items + length b.generic_icons.items)
   sized =
       omega (

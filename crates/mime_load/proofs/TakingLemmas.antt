@@ -1,15 +1,12 @@
 -- What is taken, step by step.
-use Rattle.std.proofs.Common.{◌≡◌, ◌≤◌, ◌<◌, ap, ℕ, ◌+◌, ◌*◌, ◌/◌, List, length, [], ◌∷◌, ◌++◌, sym, subst, ◌∙◌, arith}
-use Rattle.std.proofs.lemmas.List.{length_push, map_push}
+use Rattle.std.proofs.Common.{◌≡◌, ◌≤◌, ◌<◌, ap, ℕ, ◌+◌, ◌*◌, ◌/◌, List, length, [], ◌∷◌, ◌++◌, ◌∙◌, arith}
+use Rattle.std.proofs.lemmas.List.{length_push}
 use Rattle.std.proofs.lemmas.List.Sums.{sum_by-cons}
 use Rattle.mime_base.specs.Format.Magic.{line_count}
 use Rattle.mime_base.specs.Format.Packed.{forest_value_length, matchlet_count, value_length}
-use Rattle.mime_base.specs.Magic.{PlainMatchlet, PlainSection, forest_of}
-use Rattle.mime_load.specs.Lent.{plain_line, plain_lines, plain_section, plain_sections}
-use Rattle.mime_load.specs.declared.section.LentSection.{LentSection}
-use Rattle.mime_load.specs.declared.line.LentLine.{LentLine}
+use Rattle.mime_base.specs.Magic.{PlainSection}
 use Rattle.mime_base.specs.declared.meter.Meter.{Meter}
-use Rattle.mime_load.specs.Taking.{OnlyLooks, PaysWide, TakesLines, TakesOnlyRecords, TakesSections}
+use Rattle.mime_load.specs.Taking.{OnlyLooks, PaysWide, TakesOnlyRecords, TakesSections}
 use Rattle.mime_load.specs.declared.taking.Taking.{Taking}
 
 -- a step after others
@@ -49,27 +46,6 @@ takes_more nodes texts old mid new first second = record {
   };
 }
 
--- the lines of a list, and of one more
-count_push : (xs : List PlainMatchlet) (y : PlainMatchlet)
-    → line_count (forest_of (xs ++ y ∷ [])) ≡ line_count (forest_of xs) + line_count (forest_of (y ∷ []))
-count_push [] y = omega arith
-count_push (x ∷ xs) y = omega (arith, count_push xs y)
-
--- their values
-values_push : (xs : List PlainMatchlet) (y : PlainMatchlet)
-    → forest_value_length (forest_of (xs ++ y ∷ [])) ≡ forest_value_length (forest_of xs) + forest_value_length (forest_of (y ∷ []))
-values_push [] y = omega arith
-values_push (x ∷ xs) y = omega (arith, values_push xs y)
-
--- a line after others
-pub lines_taken : (old mid new : Taking) (xs : List LentLine) (m : LentLine) → TakesLines old mid (forest_of (plain_lines xs))
-    → TakesLines mid new (forest_of (plain_lines (m ∷ []))) → TakesLines old new (forest_of (plain_lines (xs ++ m ∷ [])))
-lines_taken old mid new xs m before one =
-    subst (λ (ps : List PlainMatchlet). TakesLines old new (forest_of ps)) (sym (map_push plain_line xs m)) (record {
-      records = omega (arith, before.records, one.records, count_push (plain_lines xs) (plain_line m));
-      value_bytes = omega (arith, before.value_bytes, one.value_bytes, values_push (plain_lines xs) (plain_line m));
-    })
-
 -- the lines of sections, and of one more
 matchlets_push : (xs : List PlainSection) (y : PlainSection)
     → matchlet_count (xs ++ y ∷ []) ≡ matchlet_count xs + matchlet_count (y ∷ [])
@@ -95,20 +71,12 @@ value_lengths_push (x ∷ xs) y =
     )
 
 -- a section after others
-pub sections_taken : (old mid new : Taking) (xs : List LentSection) (s : LentSection) → TakesSections old mid (plain_sections xs)
-    → TakesSections mid new (plain_section s ∷ []) → TakesSections old new (plain_sections (xs ++ s ∷ []))
-sections_taken old mid new xs s before one =
-    subst (TakesSections old new) (sym (map_push plain_section xs s)) (record {
-      records =
-          omega (
-            arith,
-            before.records,
-            one.records,
-            matchlets_push (plain_sections xs) (plain_section s),
-            length_push (plain_sections xs) (plain_section s),
-          );
-      value_bytes = omega (arith, before.value_bytes, one.value_bytes, value_lengths_push (plain_sections xs) (plain_section s));
-    })
+pub sections_taken : (old mid new : Taking) (xs : List PlainSection) (s : PlainSection) → TakesSections old mid xs
+    → TakesSections mid new (s ∷ []) → TakesSections old new (xs ++ s ∷ [])
+sections_taken old mid new xs s before one = record {
+  records = omega (arith, before.records, one.records, matchlets_push xs s, length_push xs s);
+  value_bytes = omega (arith, before.value_bytes, one.value_bytes, value_lengths_push xs s);
+}
 
 -- a count and that many pairs of a list in the cache
 pub looks_list : (c : List ℕ) (i : ℕ) (old mid new : Taking) → OnlyLooks 1 0 old mid → OnlyLooks i (2 * i) mid new → 8 * i ≤ length c

@@ -4,9 +4,8 @@ use Rattle.mime_base.specs.Cache.Bytes.{Stands}
 use Rattle.mime_base.specs.Format.Header.{HeaderAt, Offsets}
 use Rattle.mime_base.specs.Format.Magic.{IsSectionRecord, LinesAt, MagicAt, MaskAt, line_numbers}
 use Rattle.mime_base.specs.Format.Records.{CardsAt, RecordsAt}
-use Rattle.mime_base.specs.Magic.{Forest, PlainLine, PlainSection, are_allowed, are_allowed_sections, fits_word, forest_of, is_allowed, line_from}
-use Rattle.mime_load.specs.Lent.{lent_mask, plain_lines}
-use Rattle.mime_load.specs.declared.line.LentLine.{LentLine}
+use Rattle.mime_base.specs.Magic.{Forest, PlainLine, PlainSection, are_allowed, are_allowed_sections, fits_word, is_allowed, line_from}
+use Rattle.mime_load.specs.Lent.{lent_mask}
 use Rattle.mime_load.specs.declared.own.Own.{Own}
 
 -- start, range and size are small enough, and the word fits the size
@@ -41,10 +40,6 @@ OwnStands c at own = LineStands c at (plain_own own) own.count own.first
 pub record ForestStands (c : List ℕ) (at levels : ℕ) (lines : Forest) : Type 0 where
   pub stand : LinesAt (Stands c) at lines
   pub allowed : are_allowed levels lines ≡ true
-
--- so do lines of the code
-abbrev pub LinesStand : List ℕ → ℕ → ℕ → List LentLine → Type 0
-LinesStand c at levels lines = ForestStands c at levels (forest_of (plain_lines lines))
 
 -- A section stands at an offset, and magic can spell it.
 pub record SectionStands (c : List ℕ) (at : ℕ) (section : PlainSection) : Type 0 where

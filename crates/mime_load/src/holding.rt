@@ -2,50 +2,79 @@
 //!
 //! Windows of the content are compared in place, and nothing is allocated.
 
-ghost use Rattle.std.specs.Prelude.{◌≡◌};
+ghost use Rattle.std.specs.Prelude.{◌≡◌, ◌≤◌, drop, length};
 ghost use Rattle.mime_base.specs.Magic.Holds.{bytes_of_mask, equals_from, line_holds, some_holds};
-ghost use Rattle.mime_base.specs.Magic.{forest_of};
-ghost use Rattle.mime_load.specs.Lent.{lent_mask, plain_line, plain_lines};
+ghost use Rattle.mime_load.specs.Lent.{behind_first, first_of, lent_forest, lent_mask, plain_line};
 
 use crate::line::LentLine;
 use mime_base::{Host, Meter, value_in_range};
 
-/// Whether a line holds for a content: the bytes at some offset of its range equal its value, and
-/// some child holds if it has any.
+/// Whether the first of these lines holds for a content: the bytes at some offset of its range equal its
+/// value, and some child holds if it has any.
 ///
 /// On a little-endian host each group of `word` bytes of value and mask is reversed first. It adds
 /// the bytes that were compared, with no promised bound, and no node.
 #[cycle(holding)]
-pub fn lent_line_matches(line: &LentLine<'_>, content: &[u8], host: Host, meter: &mut Meter) -> bool
+pub fn first_line_matches(
+    lines: &[LentLine<'_>],
+    content: &[u8],
+    host: Host,
+    meter: &mut Meter,
+) -> bool
     // At some offset of the range the window equals the value under the mask; some child holds, if there is one.
-    ensures holds { result ≡ line_holds (plain_line line.now) content.now host }
+    ensures holds { result ≡ line_holds (first_of lines.now) content.now host }
     // No record is counted.
     ensures nodes { meter.new.nodes ≡ meter.old.nodes }
 {
+    let Some((line, after)) = lines.split_first() else {
+        return false;
+    };
     if !equals_in_range(line, content, host, meter) {
         return false;
     }
-    line.children.is_empty() || some_line_matches(&line.children, content, host, meter)
+    let below = &after[..line.below.min(after.len())];
+    below.is_empty() || some_line_matches(below, content, host, meter)
 }
 
-/// Whether one of the lines holds for a content.
+/// Whether one of the lines side by side holds for a content.
 #[cycle(holding)]
 fn some_line_matches(lines: &[LentLine<'_>], content: &[u8], host: Host, meter: &mut Meter) -> bool
-    ensures holds { result ≡ some_holds (forest_of (plain_lines lines.now)) content.now host }
+    ensures holds { result ≡ some_holds (lent_forest lines.now) content.now host }
     ensures nodes { meter.new.nodes ≡ meter.old.nodes }
 {
-    for line in lines {
-        if lent_line_matches(line, content, host, meter) {
+    let mut rest = lines;
+    while !rest.is_empty() {
+        if first_line_matches(rest, content, host, meter) {
             return true;
         }
+        rest = behind_first(rest);
     }
     false
 }
 
+/// The lines behind the first one and those below it.
+pub fn behind_first<'l, 'a>(lines: &'l [LentLine<'a>]) -> &'l [LentLine<'a>]
+    // They are these, or none where there is no first.
+    ensures { result.now ≡ behind_first lines.now }
+{
+    &lines[count_of_first(lines)..]
+}
+
+/// How many lines the first one is with those below it.
+fn count_of_first(lines: &[LentLine<'_>]) -> usize
+    ensures within { result ≤ length lines.now }
+    ensures behind { drop result lines.now ≡ behind_first lines.now }
+{
+    match lines.split_first() {
+        Some((line, after)) => line.below.min(after.len()) + 1,
+        None => 0,
+    }
+}
+
 /// Whether the bytes at some offset of a line's range equal its value.
 fn equals_in_range(line: &LentLine<'_>, content: &[u8], host: Host, meter: &mut Meter) -> bool
-    ensures equal { result ≡ equals_from (plain_line line.now).own host content.now
-        (plain_line line.now).own.start (plain_line line.now).own.range }
+    ensures equal { result ≡ equals_from (plain_line line.now) host content.now
+        (plain_line line.now).start (plain_line line.now).range }
     ensures nodes { meter.new.nodes ≡ meter.old.nodes }
 {
     value_in_range(

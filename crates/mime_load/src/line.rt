@@ -1,14 +1,12 @@
 //! Lines of magic that lie in a cache.
 
 ghost use Rattle.std.specs.Prelude.{◌≡◌};
-ghost use Rattle.mime_base.specs.Magic.{forest_of};
-ghost use Rattle.mime_load.specs.Lent.{plain_line, plain_lines};
+ghost use Rattle.mime_load.specs.Adding.{plain_entry};
 ghost use Rattle.mime_load.specs.MagicStanding.{plain_own};
 
 use crate::own::Own;
 
-/// A line of magic of a cache with the lines below it, its children ("The magic files"). What a field means is told by `Matchlet`
-/// of mime_base.
+/// A line of magic of a cache ("The magic files"). What a field means is told by `Matchlet` of mime_base.
 #[derive(Debug, Drop)]
 pub struct LentLine<'a> {
     /// The first offset in the content that is tried, in bytes.
@@ -21,14 +19,14 @@ pub struct LentLine<'a> {
     pub value: &'a [u8],
     /// Which bits of the value count; all of them where there is none.
     pub mask: Option<&'a [u8]>,
-    /// The lines of which one has to hold too, unless there is none.
-    pub children: Vec<LentLine<'a>>,
+    /// How many of the lines that come right after it are below it, at all depths: its children, each before those below it.
+    pub below: usize,
 }
 
-/// The line with these children.
-pub fn with_children<'a>(own: Own<'a>, children: Vec<LentLine<'a>>) -> LentLine<'a>
-    // It is that line, and they are its children.
-    ensures { plain_line result ≡ record { own = plain_own own.entry; children = forest_of (plain_lines children.entry.items) } }
+/// The line, with none below it.
+pub fn line_of<'a>(own: &Own<'a>) -> LentLine<'a>
+    // It is that line, and none are below it.
+    ensures { plain_entry result ≡ (plain_own own.now, 0) }
 {
     LentLine {
         start: own.start,
@@ -36,6 +34,6 @@ pub fn with_children<'a>(own: Own<'a>, children: Vec<LentLine<'a>>) -> LentLine<
         word: own.word,
         value: own.value,
         mask: own.mask,
-        children,
+        below: 0,
     }
 }

@@ -1,36 +1,30 @@
-//! Lines side by side, and their children.
+//! Lines side by side, and those below them.
 
-ghost use Rattle.std.specs.Prelude.{◌≡◌, ◌<◌, ◌≤◌, [], ◌∷◌, length, IfErr, IfOk};
+ghost use Rattle.std.specs.Prelude.{◌≡◌, ◌<◌, ◌≤◌, ℕ, OnOk, IfErr, length};
 ghost use Rattle.mime_base.specs.Format.Magic.{width};
-ghost use Rattle.mime_base.specs.Magic.{Forest, PlainLine, bare, forest_of, line};
-ghost use Rattle.mime_load.specs.Lent.{plain_lines};
-ghost use Rattle.mime_load.specs.MagicStanding.{ForestStands, LinesStand};
-ghost use Rattle.mime_load.specs.Taking.{HasRoomForLines, PaysWide, TakesLines};
+ghost use Rattle.mime_base.specs.Magic.{Forest, PlainLine, bare, line};
+ghost use Rattle.mime_load.specs.Adding.{AddsLines, SetsBelow};
+ghost use Rattle.mime_load.specs.MagicStanding.{ForestStands};
+ghost use Rattle.mime_load.specs.Taking.{HasRoomForLines, PaysWide};
 
-use crate::line::{LentLine, with_children};
+use crate::line::{LentLine, line_of};
 use crate::own::own_at;
 use crate::source::Source;
 use crate::taking::Taking;
 use crate::unread::Unread;
 
-/// For no more lines is room made at once: how many there are is only stated, at each of 64 levels.
-const FEW: u32 = 8;
-
-/// The `count` lines from `first` on with their children, of at most so many levels.
+/// Puts the `count` lines from `first` on after others, each right before those below it, of at most so many levels.
 #[cycle(lines)]
-pub fn lines_at<'a>(
+pub fn push_lines<'a>(
     source: &Source<'_, 'a>,
     first: u32,
     count: u32,
     levels: u32,
     taking: &mut Taking,
-) -> Result<Vec<LentLine<'a>>, Unread>
-    // They stand there.
-    ensures stand { IfOk result (λ lines. LinesStand source.now.counted.now first levels lines.items) }
-    // There are so many.
-    ensures count { IfOk result (λ lines. length lines.items ≡ count) }
-    // They took their room.
-    ensures taken { IfOk result (λ lines. TakesLines taking.old taking.new (forest_of (plain_lines lines.items))) }
+    lines: &mut Vec<LentLine<'a>>,
+) -> Result<(), Unread>
+    // So many that stand there come after the others, and took their room.
+    ensures adds { OnOk result (AddsLines source.now.counted.now first levels count lines.old.items lines.new.items taking.old taking.new) }
     // Of lines that stand, and with room for them, only memory can be short.
     ensures need { (lines : Forest) → width lines ≡ count → ForestStands source.now.counted.now first levels lines →
         HasRoomForLines taking.old lines → IfErr result (λ e. e ≡ Unread.OutOfMemory) }
@@ -40,28 +34,25 @@ pub fn lines_at<'a>(
     if levels == 0 && count != 0 {
         return Err(Unread::NotSpelled);
     }
-    let mut lines = Vec::with_capacity(source.alloc, count.min(FEW) as usize)?;
     for i in 0..count {
         let at = u64::from(first) + 32 * u64::from(i);
-        let line = line_at(source, at, levels, taking)?;
-        lines.push(line)?;
+        push_line(source, at, levels, taking, lines)?;
     }
-    Ok(lines)
+    Ok(())
 }
 
-/// The line at `at` with its children.
+/// Puts the line at `at` after others, right before those below it.
 #[cycle(lines)]
-fn line_at<'a>(
+fn push_line<'a>(
     source: &Source<'_, 'a>,
     at: u64,
     levels: u32,
     taking: &mut Taking,
-) -> Result<LentLine<'a>, Unread>
+    lines: &mut Vec<LentLine<'a>>,
+) -> Result<(), Unread>
     requires some { 0 < levels }
-    // It stands there.
-    ensures stands { IfOk result (λ line. LinesStand source.now.counted.now at levels (line ∷ [])) }
-    // It took its room.
-    ensures taken { IfOk result (λ line. TakesLines taking.old taking.new (forest_of (plain_lines (line ∷ [])))) }
+    // It stands there, comes after the others, and took its room.
+    ensures adds { OnOk result (AddsLines source.now.counted.now at levels 1 lines.old.items lines.new.items taking.old taking.new) }
     // Of a line that stands, and with room for it, only memory can be short.
     ensures need { (own : PlainLine) (children : Forest) → ForestStands source.now.counted.now at levels (line own children bare) →
         HasRoomForLines taking.old (line own children bare) → IfErr result (λ e. e ≡ Unread.OutOfMemory) }
@@ -69,6 +60,22 @@ fn line_at<'a>(
     ensures wide { PaysWide 0 taking.old taking.new }
 {
     let own = own_at(source, at, taking)?;
-    let children = lines_at(source, own.first, own.count, levels - 1, taking)?;
-    Ok(with_children(own, children))
+    let place = lines.len();
+    lines.push(line_of(&own))?;
+    if own.count == 0 {
+        return Ok(());
+    }
+    push_lines(source, own.first, own.count, levels - 1, taking, lines)?;
+    set_below(lines, place);
+    Ok(())
+}
+
+/// All lines after the one at a place are below it.
+fn set_below(lines: &mut Vec<LentLine<'_>>, place: usize)
+    requires { place < length lines.old.items }
+    // It has their number, and nothing else changed.
+    ensures { SetsBelow place lines.old.items lines.new.items }
+{
+    let below = lines.len() - place - 1;
+    lines[place].below = below;
 }

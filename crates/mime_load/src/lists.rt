@@ -1,8 +1,8 @@
 //! The lists of a cache.
 
 use crate::leaf::LeafRule;
+use crate::magic::LentMagic;
 use crate::pair::LentPair;
-use crate::section::LentSection;
 use mime_base::LentRule;
 
 /// What a cache spells, lent from its bytes. This project's own.
@@ -18,8 +18,8 @@ pub struct Lists<'a> {
     pub leaves: Vec<LeafRule<'a>>,
     /// The rules of the glob list, in its order.
     pub globs: Vec<LentRule<'a>>,
-    /// The sections of magic, in the order of the list.
-    pub sections: Vec<LentSection<'a>>,
+    /// The sections of magic with their lines, in the order of the list.
+    pub magic: LentMagic<'a>,
     /// The types with their icons, sorted by the types.
     pub icons: Vec<LentPair<'a>>,
     /// The types with their generic icons, sorted by the types.

@@ -18,7 +18,7 @@ use crate::parents::parents_at;
 use crate::part::{LoadFault, Part, fault_of};
 use crate::reading::read_numbers;
 use crate::rules::{globs_at, literals_at};
-use crate::sections::sections_at;
+use crate::sections::magic_at;
 use crate::source::Source;
 use crate::suffix_tree::leaves_at;
 use crate::taking::{Taking, room_of};
@@ -79,7 +79,7 @@ fn lists_of<'a>(source: &Source<'_, 'a>, taking: &mut Taking) -> Result<Lists<'a
     let literals = of_part(Part::Literals, literals_at(source, header[3], taking))?;
     let leaves = of_part(Part::Suffixes, leaves_at(source, header[4], taking))?;
     let globs = of_part(Part::Globs, globs_at(source, header[5], taking))?;
-    let sections = of_part(Part::Magic, sections_at(source, header[6], taking))?;
+    let magic = of_part(Part::Magic, magic_at(source, header[6], taking))?;
     let icons = of_part(Part::Icons, icons_at(source, header[8], taking))?;
     let generic_icons = of_part(Part::GenericIcons, icons_at(source, header[9], taking))?;
     Ok(Lists {
@@ -88,7 +88,7 @@ fn lists_of<'a>(source: &Source<'_, 'a>, taking: &mut Taking) -> Result<Lists<'a
         literals,
         leaves,
         globs,
-        sections,
+        magic,
         icons,
         generic_icons,
     })

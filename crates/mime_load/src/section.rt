@@ -1,7 +1,5 @@
 //! Sections of magic that lie in a cache.
 
-use crate::line::LentLine;
-
 /// A section of magic of a cache ("The magic files").
 #[derive(Debug, Drop)]
 pub struct LentSection<'a> {
@@ -9,6 +7,6 @@ pub struct LentSection<'a> {
     pub priority: u32,
     /// The type that it gives.
     pub kind: &'a [u8],
-    /// Its lines; it holds if one of them does.
-    pub lines: Vec<LentLine<'a>>,
+    /// How many lines it has, at all depths; it holds if one of those of indent 0 does.
+    pub lines: usize,
 }

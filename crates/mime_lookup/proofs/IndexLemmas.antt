@@ -1,6 +1,7 @@
 -- Lemmas on the index of a database: what a name that a rule matches ends in, the keys of rules, and rules that are skipped.
 pub mod Indexes
 pub mod LentRules
+pub mod LentTops
 pub mod LineHeads
 pub mod TopLines
 pub mod NotedPairs

@@ -8,15 +8,16 @@ use Rattle.mime_base.specs.declared.database.Database.{Database}
 use Rattle.mime_base.specs.Magic.{PlainSection, plain_sections}
 use Rattle.mime_base.specs.declared.database.rule.GlobRule.{GlobRule}
 use Rattle.mime_base.specs.declared.magic.matchlet.Matchlet.{Matchlet}
-use Rattle.mime_load.specs.Lent.{plain_line}
 use Rattle.mime_load.specs.declared.line.LentLine.{LentLine}
 use Rattle.mime_lookup.specs.CheckingOrder.{read_limit}
 use Rattle.mime_lookup.specs.Heads.{AreLineHeads}
 use Rattle.mime_lookup.specs.Places.{ArePlaced}
 use Rattle.mime_lookup.specs.Tables.{AreTables}
-use Rattle.mime_lookup.specs.TopLines.{PlainTop, lent_matchlet, plain_tops, top_lines}
+use Rattle.mime_lookup.specs.TopLines.{PlainTop, lent_matchlet, lent_top, plain_tops, top_lines}
 use Rattle.mime_lookup.specs.declared.indexed.heads.Heads.{Heads}
 use Rattle.mime_lookup.specs.declared.indexed.line_head.LineHead.{LineHead}
+use Rattle.mime_lookup.specs.declared.indexed.magic_line.LentTop.{LentTop}
+use Rattle.mime_lookup.specs.declared.indexed.magic_line.Matchlets.{Matchlets}
 use Rattle.mime_lookup.specs.declared.indexed.tables.Tables.{Tables}
 use Rattle.mime_lookup.specs.declared.indexed.top_line.TopLine.{TopLine}
 use Rattle.mime_lookup.specs.declared.places.PlacedPairs.{PlacedPairs}
@@ -36,11 +37,11 @@ pub record AreFound (heads : List LineHead) (tables : Tables) (tops : List Plain
   pub tabled : AreTables tables heads 0
 
 -- an index of these sections of magic: it has their lines of indent 0, in their order, each with the type and the priority of its section
-abbrev pub IsMagicIndex : List (TopLine LentLine) → List PlainSection → Type 0
-IsMagicIndex tops sections = plain_tops plain_line tops ≡ top_lines sections
+abbrev pub IsMagicIndex : List LentLine × List (TopLine LentTop) → List PlainSection → Type 0
+IsMagicIndex index sections = plain_tops (lent_top index.0) index.1 ≡ top_lines sections
 
 -- the index of a database's rules, the places of its pairs, the heads of its lines, and how much of a content is read at most
-pub record IsIndexOf (database : Database) (names : List GlobRule) (pairs : PlacedPairs) (heads : Heads (Bor Matchlet)) (limit : ℕ) : Type 0 where
+pub record IsIndexOf (database : Database) (names : List GlobRule) (pairs : PlacedPairs) (heads : Heads Matchlets (Bor Matchlet)) (limit : ℕ) : Type 0 where
   pub named : AreUnaliased names database
   pub placed : ArePlaced pairs
   pub aliases : pairs.aliases.pairs.now ≡ database.aliases.items

@@ -1,9 +1,12 @@
 -- Lines of indent 0 of magic, each with what its section gives.
-use Rattle.std.specs.Prelude.{ℕ, List, [], ◌∷◌, map}
+use Rattle.std.specs.Prelude.{ℕ, List, [], ◌∷◌, map, take, drop}
 use Rattle.std.specs.List.{flat_map}
 use Rattle.std.specs.Borrow.{Bor}
 use Rattle.mime_base.specs.Magic.{Forest, PlainMatchlet, PlainSection, bare, line, plain_matchlet}
 use Rattle.mime_base.specs.declared.magic.matchlet.Matchlet.{Matchlet}
+use Rattle.mime_load.specs.Lent.{first_of}
+use Rattle.mime_load.specs.declared.line.LentLine.{LentLine}
+use Rattle.mime_lookup.specs.declared.indexed.magic_line.LentTop.{LentTop}
 use Rattle.mime_lookup.specs.declared.indexed.top_line.TopLine.{TopLine}
 
 -- a line of indent 0 with its children, and the type and the priority of its section
@@ -23,6 +26,10 @@ plain_tops plain tops = map (plain_top plain) tops
 -- a line of a database that is lent
 abbrev pub lent_matchlet : Bor Matchlet → PlainMatchlet
 lent_matchlet m = plain_matchlet m.now
+
+-- a line of indent 0 of a cache: the first of the lines from its place on up to the end of its section
+abbrev pub lent_top : List LentLine → LentTop → PlainMatchlet
+lent_top lines top = first_of (take top.size (drop top.place lines))
 
 -- the first lines of a forest, each with its children
 abbrev pub lines_of : Forest → List PlainMatchlet

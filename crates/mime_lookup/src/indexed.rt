@@ -22,6 +22,7 @@ pub mod top_line;
 ghost use Rattle.std.specs.Prelude.{◌≡◌, IfOk};
 
 use crate::indexed::heads::{Heads, heads_of};
+use crate::indexed::magic_line::Matchlets;
 use crate::indexed::rules::lent_rules;
 use crate::indexed::top_line::tops_of;
 use crate::lists::front_limit;
@@ -46,7 +47,7 @@ pub struct IndexedDatabase<'a> {
     /// The places of its aliases and of its subclass pairs.
     pairs: PlacedPairs<'a>,
     /// The top lines of its sections with their heads.
-    heads: Heads<'a, &'a Matchlet>,
+    heads: Heads<'a, Matchlets, &'a Matchlet>,
     /// How much of a content is read at most.
     limit: usize,
 }
@@ -78,7 +79,7 @@ impl<'a> IndexedDatabase<'a> {
         let rules = lent_rules(alloc, &database.rules, &aliases)?;
         let names = NameIndex::new(alloc, &rules)?;
         let tops = tops_of(alloc, &database.sections)?;
-        let heads = heads_of(alloc, tops)?;
+        let heads = heads_of(alloc, Matchlets, tops)?;
         Ok(IndexedDatabase {
             database,
             names,

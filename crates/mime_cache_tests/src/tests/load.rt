@@ -20,7 +20,7 @@ fn counts_of(lists: &Lists<'_>) -> [usize; 8] {
         lists.literals.len(),
         lists.leaves.len(),
         lists.globs.len(),
-        lists.sections.len(),
+        lists.magic.sections.len(),
         lists.icons.len(),
         lists.generic_icons.len(),
     ]

@@ -7,10 +7,11 @@ use Rattle.mime_base.specs.declared.magic.matchlet.Matchlet.{Matchlet}
 use Rattle.mime_lookup.specs.Indexed.{IsIndexOf}
 use Rattle.mime_lookup.specs.Places.{pairs_at, placed}
 use Rattle.mime_lookup.specs.declared.indexed.heads.Heads.{Heads}
+use Rattle.mime_lookup.specs.declared.indexed.magic_line.Matchlets.{Matchlets}
 use Rattle.mime_base.specs.declared.database.rule.GlobRule.{GlobRule}
 use Rattle.mime_lookup.specs.declared.places.PlacedPairs.{PlacedPairs}
 
-module _ (inside database : Database) (names : List GlobRule) (pairs : PlacedPairs) (heads : Heads (Bor Matchlet)) (limit : ℕ)
+module _ (inside database : Database) (names : List GlobRule) (pairs : PlacedPairs) (heads : Heads Matchlets (Bor Matchlet)) (limit : ℕ)
     (is : IsIndexOf inside names pairs heads limit) (same : inside ≡ database) where
   -- the pairs are the database's
   pub indexed_pairs : placed pairs ≡ pairs_of (plain_database database)

@@ -19,7 +19,7 @@ pub fn read_magic<'a>(
     // It visits at most a record for each sixteen bytes of the cache, and two.
     ensures nodes { meter.new.nodes ≤ meter.old.nodes + length counted.now / 16 + 2 }
 {
-    let sections = mime_load::read_magic(alloc, counted, meter)?;
-    let index = MagicIndex::new(alloc, sections)?;
+    let magic = mime_load::read_magic(alloc, counted, meter)?;
+    let index = MagicIndex::new(alloc, magic)?;
     Ok(index)
 }

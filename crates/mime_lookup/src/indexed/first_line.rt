@@ -10,7 +10,7 @@ ghost use Rattle.mime_lookup.specs.TopLines.{plain_tops};
 
 use crate::indexed::heads::Heads;
 use crate::indexed::line_search::{LineSearch, line_holds};
-use crate::indexed::magic_line::MagicLine;
+use crate::indexed::magic_line::MagicLines;
 use crate::indexed::noted_pairs::{FRONT, NotedPairs};
 use crate::indexed::tables::Tables;
 use mime_base::{Host, Meter};
@@ -19,16 +19,16 @@ use mime_base::{Host, Meter};
 ///
 /// The meter counts as a byte each table, each line and each place of the content's front that is looked at, and what is
 /// compared.
-pub fn first_line<L: MagicLine>(
-    heads: &Heads<'_, L>,
+pub fn first_line<S: MagicLines<L>, L: Drop>(
+    heads: &Heads<'_, S, L>,
     content: &[u8],
     host: Host,
     meter: &mut Meter,
 ) -> usize
     // Each line has its head, and is found by its place and its byte, or is asked by itself.
-    requires found { AreFound heads.now.lines.items heads.now.tables (plain_tops L.plain heads.now.tops.items) }
+    requires found { AreFound heads.now.lines.items heads.now.tables (plain_tops (S.plain heads.now.source) heads.now.tops.items) }
     // No line before it holds, and it does, if there is one.
-    ensures first { IsFirst (plain_tops L.plain heads.now.tops.items) content.now host result }
+    ensures first { IsFirst (plain_tops (S.plain heads.now.source) heads.now.tops.items) content.now host result }
     // No record of a cache is visited.
     ensures nodes { meter.new.nodes ≡ meter.old.nodes }
 {
@@ -36,6 +36,7 @@ pub fn first_line<L: MagicLine>(
     let noted = NotedPairs::new(content);
     let asked = LineSearch {
         heads: &heads.lines,
+        source: &heads.source,
         tops: &heads.tops,
         content: &noted,
         host,
@@ -45,17 +46,17 @@ pub fn first_line<L: MagicLine>(
 }
 
 /// The first line of those that the tables name that holds, else the number of lines.
-fn among_tables<L: MagicLine>(
+fn among_tables<S: MagicLines<L>, L: Drop>(
     tables: &Tables,
-    asked: &LineSearch<'_, L>,
+    asked: &LineSearch<'_, S, L>,
     meter: &mut Meter,
 ) -> usize
-    requires headed { AreLineHeads asked.now.heads.now (plain_tops L.plain asked.now.tops.now) }
+    requires headed { AreLineHeads asked.now.heads.now (plain_tops (S.plain asked.now.source.now) asked.now.tops.now) }
     requires size { length tables.now.nexts.items ≡ length asked.now.tops.now }
     requires slots { length tables.now.firsts.items ≡ length tables.now.places.items * 256 }
-    ensures narrows { Narrows (plain_tops L.plain asked.now.tops.now) asked.now.content.now asked.now.host
+    ensures narrows { Narrows (plain_tops (S.plain asked.now.source.now) asked.now.tops.now) asked.now.content.now asked.now.host
         (length asked.now.tops.now) result }
-    ensures fail { TablesFail (plain_tops L.plain asked.now.tops.now) asked.now.content.now asked.now.host tables.now result
+    ensures fail { TablesFail (plain_tops (S.plain asked.now.source.now) asked.now.tops.now) asked.now.content.now asked.now.host tables.now result
         (length tables.now.places.items) }
     ensures nodes { meter.new.nodes ≡ meter.old.nodes }
 {
@@ -69,18 +70,18 @@ fn among_tables<L: MagicLine>(
 
 /// The first line before `until` that a table names that holds, else `until`.
 #[inline]
-fn in_table<L: MagicLine>(
+fn in_table<S: MagicLines<L>, L: Drop>(
     tables: &Tables,
     table: usize,
-    asked: &LineSearch<'_, L>,
+    asked: &LineSearch<'_, S, L>,
     until: usize,
     meter: &mut Meter,
 ) -> usize
-    requires headed { AreLineHeads asked.now.heads.now (plain_tops L.plain asked.now.tops.now) }
+    requires headed { AreLineHeads asked.now.heads.now (plain_tops (S.plain asked.now.source.now) asked.now.tops.now) }
     requires has { HasTable tables.now (length asked.now.tops.now) table }
     requires until { until ≤ length asked.now.tops.now }
-    ensures narrows { Narrows (plain_tops L.plain asked.now.tops.now) asked.now.content.now asked.now.host until result }
-    ensures fail { TableFails (plain_tops L.plain asked.now.tops.now) asked.now.content.now asked.now.host tables.now result table }
+    ensures narrows { Narrows (plain_tops (S.plain asked.now.source.now) asked.now.tops.now) asked.now.content.now asked.now.host until result }
+    ensures fail { TableFails (plain_tops (S.plain asked.now.source.now) asked.now.tops.now) asked.now.content.now asked.now.host tables.now result table }
     ensures nodes { meter.new.nodes ≡ meter.old.nodes }
 {
     let bytes = asked.content.bytes();
@@ -94,18 +95,18 @@ fn in_table<L: MagicLine>(
 
 /// The first line before `until` that holds, of the one that is named and those that follow it, else `until`.
 #[inline]
-fn in_chain<L: MagicLine>(
+fn in_chain<S: MagicLines<L>, L: Drop>(
     nexts: &[u16],
     named: u16,
-    asked: &LineSearch<'_, L>,
+    asked: &LineSearch<'_, S, L>,
     until: usize,
     meter: &mut Meter,
 ) -> usize
-    requires headed { AreLineHeads asked.now.heads.now (plain_tops L.plain asked.now.tops.now) }
+    requires headed { AreLineHeads asked.now.heads.now (plain_tops (S.plain asked.now.source.now) asked.now.tops.now) }
     requires size { length nexts.now ≡ length asked.now.tops.now }
     requires until { until ≤ length asked.now.tops.now }
-    ensures narrows { Narrows (plain_tops L.plain asked.now.tops.now) asked.now.content.now asked.now.host until result }
-    ensures fail { ChainFails (plain_tops L.plain asked.now.tops.now) asked.now.content.now asked.now.host nexts.now named result }
+    ensures narrows { Narrows (plain_tops (S.plain asked.now.source.now) asked.now.tops.now) asked.now.content.now asked.now.host until result }
+    ensures fail { ChainFails (plain_tops (S.plain asked.now.source.now) asked.now.tops.now) asked.now.content.now asked.now.host nexts.now named result }
     ensures nodes { meter.new.nodes ≡ meter.old.nodes }
 {
     let (mut low, mut link) = (0, usize::from(named));
@@ -121,16 +122,16 @@ fn in_chain<L: MagicLine>(
 }
 
 /// The first line of the others, before `until`, that holds, else `until`.
-fn among_others<L: MagicLine>(
+fn among_others<S: MagicLines<L>, L: Drop>(
     others: &[usize],
-    asked: &LineSearch<'_, L>,
+    asked: &LineSearch<'_, S, L>,
     until: usize,
     meter: &mut Meter,
 ) -> usize
-    requires headed { AreLineHeads asked.now.heads.now (plain_tops L.plain asked.now.tops.now) }
+    requires headed { AreLineHeads asked.now.heads.now (plain_tops (S.plain asked.now.source.now) asked.now.tops.now) }
     requires until { until ≤ length asked.now.tops.now }
-    ensures narrows { Narrows (plain_tops L.plain asked.now.tops.now) asked.now.content.now asked.now.host until result }
-    ensures fail { OthersFail (plain_tops L.plain asked.now.tops.now) asked.now.content.now asked.now.host others.now result 0 }
+    ensures narrows { Narrows (plain_tops (S.plain asked.now.source.now) asked.now.tops.now) asked.now.content.now asked.now.host until result }
+    ensures fail { OthersFail (plain_tops (S.plain asked.now.source.now) asked.now.tops.now) asked.now.content.now asked.now.host others.now result 0 }
     ensures nodes { meter.new.nodes ≡ meter.old.nodes }
 {
     meter.add_bytes(others.len() as u64);

@@ -7,7 +7,7 @@ ghost use Rattle.mime_lookup.specs.Indexed.{AreFound};
 ghost use Rattle.mime_lookup.specs.TopLines.{plain_tops};
 
 use crate::indexed::line_head::LineHead;
-use crate::indexed::magic_line::MagicLine;
+use crate::indexed::magic_line::MagicLines;
 use crate::indexed::tables::{Tables, tables_of};
 use crate::indexed::top_line::TopLine;
 use mime_base::OutOfMemory;
@@ -15,9 +15,11 @@ use std::alloc::Global;
 
 /// The top lines of some sections, and what is known of them.
 #[derive(Drop)]
-pub struct Heads<'a, L> {
+pub struct Heads<'a, S, L> {
     /// The head of each line.
     pub lines: Vec<LineHead>,
+    /// Where the lines are kept.
+    pub source: S,
     /// The lines, section by section.
     pub tops: Vec<TopLine<'a, L>>,
     /// Where they are found by a place and a byte.
@@ -25,22 +27,26 @@ pub struct Heads<'a, L> {
 }
 
 /// The top lines of some sections with their heads.
-pub fn heads_of<'a, L: MagicLine>(
+pub fn heads_of<'a, S: MagicLines<L>, L: Drop>(
     alloc: Global,
+    source: S,
     tops: Vec<TopLine<'a, L>>,
-) -> Result<Heads<'a, L>, OutOfMemory>
+) -> Result<Heads<'a, S, L>, OutOfMemory>
     // The lines are those, in their order.
-    ensures tops { IfOk result (λ heads. plain_tops L.plain heads.tops.items ≡ plain_tops L.plain tops.entry.items) }
+    ensures tops { IfOk result (λ heads. plain_tops (S.plain heads.source) heads.tops.items
+        ≡ plain_tops (S.plain source) tops.entry.items) }
     // Each has its head, and is found by its place and its byte, or is asked by itself.
-    ensures found { IfOk result (λ heads. AreFound heads.lines.items heads.tables (plain_tops L.plain heads.tops.items)) }
+    ensures found { IfOk result (λ heads. AreFound heads.lines.items heads.tables
+        (plain_tops (S.plain heads.source) heads.tops.items)) }
 {
     let mut lines = Vec::with_capacity(alloc, tops.len())?;
     for top in &tops {
-        lines.push(top.line.head())?;
+        lines.push(source.head(&top.line))?;
     }
     let tables = tables_of(alloc, &lines)?;
     Ok(Heads {
         lines,
+        source,
         tops,
         tables,
     })

@@ -38,7 +38,7 @@ const LONGEST: usize = 65_535;
 const NEAR: u8 = 16;
 
 /// A head that refuses nothing.
-const UNKNOWN: LineHead = LineHead {
+pub const UNKNOWN: LineHead = LineHead {
     start: 0,
     range: 0,
     size: 0,

@@ -6,7 +6,7 @@ ghost use Rattle.mime_lookup.specs.Tables.{FailsLine, Holds};
 ghost use Rattle.mime_lookup.specs.TopLines.{plain_tops};
 
 use crate::indexed::line_head::LineHead;
-use crate::indexed::magic_line::MagicLine;
+use crate::indexed::magic_line::MagicLines;
 use crate::indexed::noted_pairs::{FRONT, NotedPairs};
 use crate::indexed::top_line::TopLine;
 use memchr::memchr;
@@ -14,9 +14,11 @@ use mime_base::{Host, Meter, pass_pairs};
 
 /// Lines, and the content that they are asked of.
 #[derive(Drop)]
-pub struct LineSearch<'a, L> {
+pub struct LineSearch<'a, S, L> {
     /// The head of each line.
     pub heads: &'a [LineHead],
+    /// Where the lines are kept.
+    pub source: &'a S,
     /// The lines.
     pub tops: &'a [TopLine<'a, L>],
     /// The content.
@@ -28,15 +30,19 @@ pub struct LineSearch<'a, L> {
 /// Whether a line holds: most that don't are refused by their heads.
 // Called from two loops, in which most lines are refused by a few instructions.
 #[inline(always)]
-pub fn line_holds<L: MagicLine>(asked: &LineSearch<'_, L>, line: usize, meter: &mut Meter) -> bool
+pub fn line_holds<S: MagicLines<L>, L: Drop>(
+    asked: &LineSearch<'_, S, L>,
+    line: usize,
+    meter: &mut Meter,
+) -> bool
     // Each line has its head.
-    requires headed { AreLineHeads asked.now.heads.now (plain_tops L.plain asked.now.tops.now) }
+    requires headed { AreLineHeads asked.now.heads.now (plain_tops (S.plain asked.now.source.now) asked.now.tops.now) }
     // It is the number of a line.
     requires inside { line < length asked.now.tops.now }
     // The line holds where it says so.
-    ensures holds { result ≡ true → Holds (plain_tops L.plain asked.now.tops.now) asked.now.content.now asked.now.host line }
+    ensures holds { result ≡ true → Holds (plain_tops (S.plain asked.now.source.now) asked.now.tops.now) asked.now.content.now asked.now.host line }
     // It doesn't where it says not.
-    ensures fails { result ≡ false → FailsLine (plain_tops L.plain asked.now.tops.now) asked.now.content.now asked.now.host line }
+    ensures fails { result ≡ false → FailsLine (plain_tops (S.plain asked.now.source.now) asked.now.tops.now) asked.now.content.now asked.now.host line }
     // No record of a cache is visited.
     ensures nodes { meter.new.nodes ≡ meter.old.nodes }
 {
@@ -44,7 +50,9 @@ pub fn line_holds<L: MagicLine>(asked: &LineSearch<'_, L>, line: usize, meter: &
         return false;
     }
     let top = &asked.tops[line];
-    top.line.holds(asked.content.bytes(), asked.host, meter)
+    asked
+        .source
+        .holds(&top.line, asked.content.bytes(), asked.host, meter)
 }
 
 /// Whether a line's head refuses a content.

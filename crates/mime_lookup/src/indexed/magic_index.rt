@@ -1,18 +1,19 @@
 //! An index of the magic that was read back from a cache.
 
-ghost use Rattle.std.specs.Prelude.{◌≡◌, ◌++◌, List, IfOk, OnOk};
+ghost use Rattle.std.specs.Prelude.{◌≡◌, ◌++◌, ◌-◌, ◌≤◌, List, IfOk, OnOk, length, take, drop};
 ghost use Rattle.mime_base.specs.Magic.Holds.{first_magic};
 ghost use Rattle.mime_base.specs.Magic.{PlainSection};
-ghost use Rattle.mime_load.specs.Lent.{plain_line, plain_section, plain_sections};
+ghost use Rattle.mime_load.specs.Lent.{lent_forest, plain_magic};
 ghost use Rattle.mime_lookup.specs.Indexed.{IsMagicIndex};
-ghost use Rattle.mime_lookup.specs.TopLines.{plain_tops, tops_of};
+ghost use Rattle.mime_lookup.specs.TopLines.{lent_top, plain_tops, tops_of};
 ghost use Rattle.mime_view.specs.Magic.{plain_found};
 
 use crate::indexed::heads::{Heads, heads_of};
+use crate::indexed::magic_line::LentTop;
 use crate::indexed::sniff::first_section;
 use crate::indexed::top_line::TopLine;
 use mime_base::{Host, Meter, OutOfMemory};
-use mime_load::{LentLine, LentSection};
+use mime_load::{LentLine, LentMagic, LentSection, behind_first};
 use std::alloc::Global;
 use std::marker::Model;
 
@@ -22,13 +23,13 @@ use std::marker::Model;
 ///
 /// ```
 /// let lists = read_back(alloc, &Counted::new(&bytes), &mut meter)?;
-/// let index = MagicIndex::new(alloc, lists.sections)?;
+/// let index = MagicIndex::new(alloc, lists.magic)?;
 /// // index.first_section(content, host, &mut meter) is the type and the priority of the first section that holds
 /// ```
 #[derive(Drop)]
 pub struct MagicIndex<'a> {
-    /// The top lines with their heads, and where they are found.
-    heads: Heads<'a, LentLine<'a>>,
+    /// All lines, and the top lines with their heads, and where they are found.
+    heads: Heads<'a, Vec<LentLine<'a>>, LentTop>,
 }
 
 impl<'a> Model for MagicIndex<'a> {
@@ -37,31 +38,36 @@ impl<'a> Model for MagicIndex<'a> {
     ghost use denote.Signature.{static_lft};
     ghost use Rattle.mime_load.specs.contracts.line.LentLine as line;
     ghost use Rattle.mime_load.specs.declared.line.LentLine.{LentLine};
-    ghost use Rattle.mime_load.specs.Lent.{plain_line};
     ghost use Rattle.mime_lookup.specs.Indexed.{AreFound};
-    ghost use Rattle.mime_lookup.specs.TopLines.{plain_tops};
+    ghost use Rattle.mime_lookup.specs.TopLines.{lent_top, plain_tops};
+    ghost use Rattle.mime_lookup.specs.declared.indexed.magic_line.LentTop.{LentTop};
     ghost use Rattle.mime_lookup.specs.declared.indexed.top_line.TopLine.{TopLine};
 
-    ghost Value = { List (TopLine LentLine) };
+    ghost Value = { List LentLine × List (TopLine LentTop) };
 
     ghost coded = { Prim.hlevel (codes, (line.the_row static_lft).coded) };
 
-    ghost view = { λ index. index.heads.tops.items };
+    ghost view = { λ index. (index.heads.source.items, index.heads.tops.items) };
 
-    ghost invariant = { λ index. AreFound index.heads.lines.items index.heads.tables (plain_tops plain_line index.heads.tops.items) };
+    ghost invariant = { λ index. AreFound index.heads.lines.items index.heads.tables
+        (plain_tops (lent_top index.heads.source.items) index.heads.tops.items) };
 }
 
 impl<'a> MagicIndex<'a> {
-    /// The index of sections. Its time and memory grow with their lines.
-    pub fn new(alloc: Global, sections: Vec<LentSection<'a>>) -> Result<MagicIndex<'a>, OutOfMemory>
+    /// The index of the sections of a cache. Its time and memory grow with their lines.
+    pub fn new(alloc: Global, magic: LentMagic<'a>) -> Result<MagicIndex<'a>, OutOfMemory>
         // It is an index of these sections: of their lines of indent 0, in their order, each with what its section gives.
-        ensures { IfOk result (λ index. IsMagicIndex index (plain_sections sections.entry.items)) }
+        ensures { IfOk result (λ index. IsMagicIndex index (plain_magic magic.entry)) }
     {
-        let mut tops = Vec::new(alloc);
-        for section in sections {
-            push_tops(&mut tops, section)?;
+        let LentMagic { sections, lines } = magic;
+        let mut tops = Vec::with_capacity(alloc, lines.len())?;
+        let mut from = 0;
+        for section in &sections {
+            let until = from + section.lines.min(lines.len() - from);
+            push_tops(&mut tops, section, &lines, from, until)?;
+            from = until;
         }
-        let heads = heads_of(alloc, tops)?;
+        let heads = heads_of(alloc, lines, tops)?;
         Ok(MagicIndex { heads })
     }
 
@@ -85,25 +91,35 @@ impl<'a> MagicIndex<'a> {
     }
 }
 
-/// Adds the top lines of a section.
+/// Adds the top lines of a section, whose lines are those from one place up to another.
 fn push_tops<'a>(
-    tops: &mut Vec<TopLine<'a, LentLine<'a>>>,
-    section: LentSection<'a>,
+    tops: &mut Vec<TopLine<'a, LentTop>>,
+    section: &LentSection<'a>,
+    lines: &[LentLine<'_>],
+    from: usize,
+    until: usize,
 ) -> Result<(), OutOfMemory>
-    ensures { OnOk result (plain_tops plain_line tops.new.items
-        ≡ plain_tops plain_line tops.old.items ++ tops_of (plain_section section.entry)) }
+    requires order { from ≤ until }
+    requires inside { until ≤ length lines.now }
+    ensures { OnOk result (plain_tops (lent_top lines.now) tops.new.items
+        ≡ plain_tops (lent_top lines.now) tops.old.items ++ tops_of (record {
+          priority = section.now.priority;
+          kind = section.now.kind.now;
+          lines = lent_forest (take (until - from) (drop from lines.now));
+        })) }
 {
-    let LentSection {
-        priority,
-        kind,
-        lines,
-    } = section;
-    for line in lines {
+    let mut rest = &lines[from..until];
+    while !rest.is_empty() {
+        let line = LentTop {
+            place: until - rest.len(),
+            size: rest.len(),
+        };
         tops.push(TopLine {
-            kind,
-            priority,
+            kind: section.kind,
+            priority: section.priority,
             line,
         })?;
+        rest = behind_first(rest);
     }
     Ok(())
 }

@@ -9,21 +9,21 @@ ghost use Rattle.mime_view.specs.Magic.{plain_found};
 
 use crate::indexed::first_line::first_line;
 use crate::indexed::heads::Heads;
-use crate::indexed::magic_line::MagicLine;
+use crate::indexed::magic_line::MagicLines;
 use mime_base::{Host, Meter};
 
 /// The type and the priority of the first section with a line of indent 0 that holds.
 // As `crate::lists::first_section`, but line by line, and only those that the tables name for the content, and the others.
-pub fn first_section<'a, L: MagicLine>(
-    heads: &Heads<'a, L>,
+pub fn first_section<'a, S: MagicLines<L>, L: Drop>(
+    heads: &Heads<'a, S, L>,
     content: &[u8],
     host: Host,
     meter: &mut Meter,
 ) -> Option<(&'a [u8], u32)>
     // Each line has its head, and is found by its place and its byte, or is asked by itself.
-    requires found { AreFound heads.now.lines.items heads.now.tables (plain_tops L.plain heads.now.tops.items) }
+    requires found { AreFound heads.now.lines.items heads.now.tables (plain_tops (S.plain heads.now.source) heads.now.tops.items) }
     // Of sections with these lines of indent 0 it is the first that holds.
-    ensures first { (sections : List PlainSection) → plain_tops L.plain heads.now.tops.items ≡ top_lines sections
+    ensures first { (sections : List PlainSection) → plain_tops (S.plain heads.now.source) heads.now.tops.items ≡ top_lines sections
         → plain_found result ≡ first_magic sections content.now host }
     // No record of a cache is visited.
     ensures nodes { meter.new.nodes ≡ meter.old.nodes }

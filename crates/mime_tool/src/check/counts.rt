@@ -1,14 +1,11 @@
 //! How many there are of each list that was read back.
 
 ghost use Rattle.std.specs.Prelude.{◌≡◌, length};
-ghost use Rattle.mime_base.specs.Format.Magic.{line_count};
 ghost use Rattle.mime_base.specs.Format.Packed.{matchlet_count};
-ghost use Rattle.mime_base.specs.Magic.{forest_of};
-ghost use Rattle.mime_base.specs.Meter.{raised};
-ghost use Rattle.mime_load.specs.Lent.{plain_lines, plain_lists, plain_sections};
+ghost use Rattle.mime_load.specs.Lent.{plain_lists, plain_magic};
 ghost use Rattle.mime_tool.specs.Check.{IsFew, counts_of};
 
-use mime_load::{LentLine, LentSection, Lists};
+use mime_load::{LentMagic, Lists};
 
 /// How many there are.
 #[derive(Clone, Copy)]
@@ -40,8 +37,8 @@ pub(crate) fn counts_of(lists: &Lists<'_>) -> Counts
         rules: rule_count_of(lists),
         aliases: lists.aliases.len() as u64,
         subclasses: lists.parents.len() as u64,
-        sections: lists.sections.len() as u64,
-        lines: line_count_of(lists),
+        sections: lists.magic.sections.len() as u64,
+        lines: line_count_of(&lists.magic),
         icons: lists.icons.len() as u64,
         generic_icons: lists.generic_icons.len() as u64,
     }
@@ -59,33 +56,12 @@ fn rule_count_of(lists: &Lists<'_>) -> u64
 }
 
 // How many lines all sections have, at all depths.
-fn line_count_of(lists: &Lists<'_>) -> u64
-    requires few { IsFew (plain_lists lists.now) }
-    ensures { result ≡ matchlet_count (plain_lists lists.now).sections }
+fn line_count_of(magic: &LentMagic<'_>) -> u64
+    ensures { result ≡ matchlet_count (plain_magic magic.now) }
 {
-    lines_of_sections(&lists.sections)
-}
-
-// How many lines sections have, or the greatest number of 64 bits.
-fn lines_of_sections(sections: &[LentSection<'_>]) -> u64
-    ensures { result ≡ raised 0 (matchlet_count (plain_sections sections.now)) }
-{
-    let mut count: u64 = 0;
-    for section in sections {
-        count = count.saturating_add(lines_below(&section.lines));
+    let mut count = 0;
+    for section in &magic.sections {
+        count += section.lines.min(magic.lines.len() - count);
     }
-    count
-}
-
-// How many lines these are with those below them, or the greatest number of 64 bits.
-fn lines_below(lines: &[LentLine<'_>]) -> u64
-    ensures { result ≡ raised 0 (line_count (forest_of (plain_lines lines.now))) }
-{
-    let mut count: u64 = 0;
-    for line in lines {
-        count = count
-            .saturating_add(lines_below(&line.children))
-            .saturating_add(1);
-    }
-    count
+    count as u64
 }

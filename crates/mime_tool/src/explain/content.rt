@@ -14,7 +14,7 @@ ghost use Rattle.mime_tool.specs.ExplainSteps.{IsReady, ReadsEnough, bytes_of, d
 
 use super::Explaining;
 use mime_base::{Counted, Host, Meter, TEXTUAL_FRONT};
-use mime_load::{Lists, sections_extent};
+use mime_load::{Lists, magic_extent};
 use mime_lookup::{Cause, Content, IndexedCache, by_bytes, read_front};
 use std::alloc::Global;
 
@@ -30,7 +30,7 @@ pub(super) fn front_of<R: Content>(
     let Some(reader) = content else {
         return Ok(None);
     };
-    let limit = u64::from(TEXTUAL_FRONT).max(sections_extent(lists.sections.as_slice())) as usize;
+    let limit = u64::from(TEXTUAL_FRONT).max(magic_extent(&lists.magic)) as usize;
     let mut read = 0;
     let front = read_front(alloc, reader, limit, &mut read)?;
     Ok(Some(front))

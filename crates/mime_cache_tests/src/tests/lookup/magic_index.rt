@@ -151,7 +151,7 @@ fn sections_of_a_cache(rt: HostRuntime) -> Result<(), Fail> {
     let database = merged(alloc, &[TEXTS])?;
     let bytes = write_cache(alloc, &database, LARGEST_CACHE)?;
     let lists = read_back(alloc, &Counted::new(&bytes), &mut Meter::new())?;
-    let index = MagicIndex::new(alloc, lists.sections)?;
+    let index = MagicIndex::new(alloc, lists.magic)?;
     for row in &ROWS {
         is_found(&rt, alloc, &database, &index, row);
     }

@@ -1,65 +1,70 @@
-use Rattle.std.proofs.Common.{◌≡◌, ◌+◌, ◌||◌, sym, ap, ◌∙◌, arith, drop, vec_len}
+use Rattle.std.proofs.Common.{◌≡◌, ◌||◌, ◌∷◌, length, take, ap, sym, ◌∙◌, arith}
 use Rattle.std.proofs.lemmas.Bool.{eqb-false, eqb-true, or_left}
-use Rattle.std.proofs.lemmas.List.{drop_all}
+use Rattle.std.proofs.lemmas.List.{take_min}
 use Rattle.mime_base.specs.Magic.Holds.{some_holds}
-use Rattle.mime_base.specs.Magic.{forest_of}
-use Rattle.mime_base.proofs.MagicLemmas.HoldingLines.{line_holds-differs, some_holds-none}
-use Rattle.mime_load.specs.Lent.{plain_line, plain_lines}
-use Rattle.mime_load.specs.declared.line.LentLine.TheViews.{out-LentLine}
-use Rattle.mime_load.proofs.HoldingLines.{line_holds-alone, line_holds-parent, some_holds-from}
+use Rattle.mime_base.proofs.MagicLemmas.HoldingLines.{line_holds-differs}
+use Rattle.mime_load.specs.Lent.{behind_first, first_of, lent_forest}
+use Rattle.mime_load.proofs.HoldingLines.{first_holds-alone, first_holds-parent, first_of-empty, length-behind_first, some_holds-first, some_holds-nothing}
 use Rattle.mime_load.proofs.holding.+holding.Goals as goal
 
-pub lent_line_matches-returns-then-not-equals_in_range-clause-holds :
-    goal.lent_line_matches-returns-then-not-equals_in_range-clause-holds
-lent_line_matches-returns-then-not-equals_in_range-clause-holds t c =
-    sym (line_holds-differs c.args.content.now c.args.host (plain_line c.args.line.now)
-    (sym c.equals_in_range.ensures.equal ∙ c.if-not-equals_in_range.true))
+pub some_line_matches-returns-then-first_line_matches-clause-holds :
+    goal.some_line_matches-returns-then-first_line_matches-clause-holds
+some_line_matches-returns-then-first_line_matches-clause-holds t c =
+    sym (c.loop-rest.invariant.left
+    ∙ some_holds-first c.args.content.now c.args.host c.loop-rest.rest.now
+    ∙ or_left _ _ (sym c.first_line_matches.ensures.holds ∙ c.if-first_line_matches.true))
 
-pub lent_line_matches-returns-then-is_empty-clause-holds :
-    goal.lent_line_matches-returns-then-is_empty-clause-holds
-lent_line_matches-returns-then-is_empty-clause-holds t c =
-    let children = (out-LentLine c.args.line.now).children in
-    let none : vec_len children ≡ 0 =
-    eqb-true (vec_len children) 0 (sym c.is_empty.ensures ∙ c.if-is_empty.true) in
-    c.if-is_empty.true
-    ∙ sym (line_holds-alone c.args.content.now c.args.host c.args.line.now
-    (sym c.equals_in_range.ensures.equal ∙ c.if-not-equals_in_range.false) (omega (arith, none, children.ok.0)))
-
-pub lent_line_matches-returns-else-is_empty-clause-holds :
-    goal.lent_line_matches-returns-else-is_empty-clause-holds
-lent_line_matches-returns-else-is_empty-clause-holds t c =
-    let children = (out-LentLine c.args.line.now).children in
-    let some : vec_len children ≡ 0 → ⊥ =
-    eqb-false (vec_len children) 0 (sym c.is_empty.ensures ∙ c.if-is_empty.false) in
-    c.some_line_matches.ensures.holds
-    ∙ ap (λ ms. some_holds (forest_of (plain_lines ms)) c.args.content.now c.args.host) c.deref.ensures.value
-    ∙ sym (line_holds-parent c.args.content.now c.args.host c.args.line.now
-    (sym c.equals_in_range.ensures.equal ∙ c.if-not-equals_in_range.false) (omega (arith, some, children.ok.0)))
-
-pub some_line_matches-returns-then-lent_line_matches-clause-holds :
-    goal.some_line_matches-returns-then-lent_line_matches-clause-holds
-some_line_matches-returns-then-lent_line_matches-clause-holds t c =
-    sym (c.loop-line.invariant.left
-    ∙ some_holds-from c.args.content.now c.args.host c.args.lines.now c.loop-line.line-index
-    c.line-item.result c.loop-line-test.true c.line-item.is
-    ∙ or_left _ _ (sym c.lent_line_matches.ensures.holds ∙ c.if-lent_line_matches.true))
-
-pub some_line_matches-loop-line-preserved : goal.some_line_matches-loop-line-preserved
-some_line_matches-loop-line-preserved t c =
-    let behind = drop (c.loop-line.line-index + 1) c.args.lines.now in
-    let rest = some_holds (forest_of (plain_lines behind)) c.args.content.now c.args.host in
+pub some_line_matches-loop-rest-preserved : goal.some_line_matches-loop-rest-preserved
+some_line_matches-loop-rest-preserved t c =
+    let rest = c.loop-rest.rest.now in
+    let some : length rest ≡ 0 → ⊥ = eqb-false (length rest) 0 (sym c.is_empty.ensures ∙ c.loop-rest-test.true) in
     record {
       left =
-          c.loop-line.invariant.left
-          ∙ some_holds-from c.args.content.now c.args.host c.args.lines.now c.loop-line.line-index
-          c.line-item.result c.loop-line-test.true c.line-item.is
-          ∙ ap (λ b. b || rest) (sym c.lent_line_matches.ensures.holds ∙ c.if-lent_line_matches.false);
-      nodes = c.lent_line_matches.ensures.nodes ∙ c.loop-line.invariant.nodes;
+          c.loop-rest.invariant.left
+          ∙ some_holds-first c.args.content.now c.args.host rest
+          ∙ ap (λ b. b || some_holds (lent_forest (behind_first rest)) c.args.content.now c.args.host)
+          (sym c.first_line_matches.ensures.holds ∙ c.if-first_line_matches.false)
+          ∙ ap (λ ms. some_holds (lent_forest ms) c.args.content.now c.args.host) (sym c.behind_first-rest.ensures);
+      short =
+          omega (arith, c.loop-rest.invariant.short, length-behind_first rest (omega (arith, some)), ap length c.behind_first-rest.ensures);
+      nodes = c.first_line_matches.ensures.nodes ∙ c.loop-rest.invariant.nodes;
     }
+
+pub first_line_matches-returns-in_default-clause-holds : goal.first_line_matches-returns-in_default-clause-holds
+first_line_matches-returns-in_default-clause-holds t c =
+    sym (first_of-empty c.args.content.now c.args.host c.args.lines.now c.in_default.ensures.cases)
+
+pub first_line_matches-returns-then-not-equals_in_range-clause-holds : goal.first_line_matches-returns-then-not-equals_in_range-clause-holds
+first_line_matches-returns-then-not-equals_in_range-clause-holds t c =
+    rw c.in-Some.ensures.cases.0
+    (sym (line_holds-differs c.args.content.now c.args.host (first_of (c.in-Some.line.now ∷ c.in-Some.after.now))
+    (sym c.equals_in_range.ensures.equal ∙ c.if-not-equals_in_range.true)))
+
+pub first_line_matches-returns-then-is_empty-clause-holds : goal.first_line_matches-returns-then-is_empty-clause-holds
+first_line_matches-returns-then-is_empty-clause-holds t c =
+    let m = c.in-Some.line.now in
+    let after = c.in-Some.after.now in
+    let below : take c.min.result after ≡ take m.below after = ap (λ n. take n after) c.min.ensures ∙ take_min m.below after in
+    let none : length (take c.min.result after) ≡ 0 = eqb-true _ 0 (sym c.is_empty.ensures ∙ c.if-is_empty.true) in
+    rw c.in-Some.ensures.cases.0
+    (c.if-is_empty.true
+    ∙ sym (first_holds-alone c.args.content.now c.args.host m after (sym c.equals_in_range.ensures.equal ∙ c.if-not-equals_in_range.false)
+    (ap length (sym below) ∙ none)))
+
+pub first_line_matches-returns-else-is_empty-clause-holds : goal.first_line_matches-returns-else-is_empty-clause-holds
+first_line_matches-returns-else-is_empty-clause-holds t c =
+    let m = c.in-Some.line.now in
+    let after = c.in-Some.after.now in
+    let below : take c.min.result after ≡ take m.below after = ap (λ n. take n after) c.min.ensures ∙ take_min m.below after in
+    let some : length (take c.min.result after) ≡ 0 → ⊥ = eqb-false _ 0 (sym c.is_empty.ensures ∙ c.if-is_empty.false) in
+    rw c.in-Some.ensures.cases.0
+    (c.some_line_matches.ensures.holds
+    ∙ ap (λ ms. some_holds (lent_forest ms) c.args.content.now c.args.host) below
+    ∙ sym (first_holds-parent c.args.content.now c.args.host m after (sym c.equals_in_range.ensures.equal ∙ c.if-not-equals_in_range.false)
+    (omega (arith, some, ap length below))))
 
 pub some_line_matches-returns-clause-holds : goal.some_line_matches-returns-clause-holds
 some_line_matches-returns-clause-holds t c =
-    let none = drop_all c.loop-line.line-index c.args.lines.now c.loop-line-test.false in
-    sym (c.loop-line.invariant.left
-    ∙ ap (λ ms. some_holds (forest_of (plain_lines ms)) c.args.content.now c.args.host) none
-    ∙ some_holds-none c.args.content.now c.args.host)
+    sym (c.loop-rest.invariant.left
+    ∙ some_holds-nothing c.args.content.now c.args.host c.loop-rest.rest.now
+    (eqb-true _ 0 (sym c.is_empty.ensures ∙ c.loop-rest-test.false)))

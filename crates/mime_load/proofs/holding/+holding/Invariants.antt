@@ -1,13 +1,20 @@
-use Rattle.std.proofs.Common.{◌≡◌, drop}
+use Rattle.std.proofs.Common.{◌≡◌, ◌+◌, ◌*◌, ◌≤◌, length}
 use Rattle.mime_base.specs.Magic.Holds.{some_holds}
-use Rattle.mime_base.specs.Magic.{forest_of}
-use Rattle.mime_load.specs.Lent.{plain_lines}
+use Rattle.mime_load.specs.Lent.{lent_forest}
 use Rattle.mime_load.proofs.holding.+holding.Given as goal
 
-abbrev pub invariant-some_line_matches-loop-line : goal.invariant-some_line_matches-loop-line
-invariant-some_line_matches-loop-line l = record {
-  left :
-      some_holds (forest_of (plain_lines l.lines)) l.content l.fn.host
-      ≡ some_holds (forest_of (plain_lines (drop l.line-index l.lines))) l.content l.fn.host;
+abbrev pub decreases-first_line_matches : goal.decreases-first_line_matches
+decreases-first_line_matches l = 2 * length l.lines.now
+
+abbrev pub decreases-some_line_matches : goal.decreases-some_line_matches
+decreases-some_line_matches l = 2 * length l.lines.now + 1
+
+abbrev pub invariant-some_line_matches-loop-rest : goal.invariant-some_line_matches-loop-rest
+invariant-some_line_matches-loop-rest l = record {
+  left : some_holds (lent_forest l.lines) l.content l.fn.host ≡ some_holds (lent_forest l.rest) l.content l.fn.host;
+  short : length l.rest ≤ length l.lines;
   nodes : l.meter.nodes ≡ l.initial.meter.nodes;
 }
+
+abbrev pub decreases-some_line_matches-loop-rest : goal.decreases-some_line_matches-loop-rest
+decreases-some_line_matches-loop-rest l = length l.rest

@@ -3,18 +3,15 @@ use Rattle.mime_base.specs.Magic.Holds.{equals_from}
 use Rattle.mime_base.specs.Magic.{line_from}
 use Rattle.mime_base.proofs.MagicLemmas.HoldingLines.{equals_from-mask}
 use Rattle.mime_load.specs.Lent.{lent_mask}
-use Rattle.mime_load.specs.declared.line.LentLine.TheViews.{out-LentLine}
-use Rattle.mime_load.proofs.Extents.{plain_line-out}
 use Rattle.mime_load.proofs.holding.equals_in_range.Goals as goal
 
 pub returns-clause-equal : goal.returns-clause-equal
 returns-clause-equal c =
-    let m = out-LentLine c.args.line.now in
+    let m = c.args.line.now in
     let start : ℕ = m.start in
     let range : ℕ = m.range in
-    rw (plain_line-out c.args.line.now)
-    (c.value_in_range.ensures.equal
+    c.value_in_range.ensures.equal
     ∙ ap
     (λ (mask : List ℕ). equals_from (line_from start range m.word m.value.now (Some mask)) c.args.host c.args.content.now start range)
     c.bits_of.ensures
-    ∙ equals_from-mask start range m.word m.value.now (lent_mask m.mask) c.args.host c.args.content.now start range)
+    ∙ equals_from-mask start range m.word m.value.now (lent_mask m.mask) c.args.host c.args.content.now start range

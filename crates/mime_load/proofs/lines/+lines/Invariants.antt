@@ -1,20 +1,17 @@
-use Rattle.std.proofs.Common.{◌≡◌, ◌+◌, ◌*◌, length}
-use Rattle.mime_base.specs.Magic.{forest_of}
-use Rattle.mime_load.specs.Lent.{plain_lines}
-use Rattle.mime_load.specs.MagicStanding.{LinesStand}
-use Rattle.mime_load.specs.Taking.{PaysWide, TakesLines}
+use Rattle.std.proofs.Common.{◌+◌, ◌*◌}
+use Rattle.mime_load.specs.Adding.{AddsLines}
+use Rattle.mime_load.specs.Taking.{PaysWide}
 use Rattle.mime_load.proofs.lines.+lines.Given as goal
 
-abbrev pub decreases-line_at : goal.decreases-line_at
-decreases-line_at l = 2 * l.levels
+abbrev pub decreases-push_line : goal.decreases-push_line
+decreases-push_line l = 2 * l.levels
 
-abbrev pub decreases-lines_at : goal.decreases-lines_at
-decreases-lines_at l = 2 * l.levels + 1
+abbrev pub decreases-push_lines : goal.decreases-push_lines
+decreases-push_lines l = 2 * l.levels + 1
 
-abbrev pub invariant-lines_at-loop-i : goal.invariant-lines_at-loop-i
-invariant-lines_at-loop-i l = record {
-  stand : LinesStand l.source.counted.now l.first l.levels l.lines.items;
-  count : length l.lines.items ≡ l.i;
-  taken : TakesLines l.initial.taking l.taking (forest_of (plain_lines l.lines.items));
+abbrev pub invariant-push_lines-loop-i : goal.invariant-push_lines-loop-i
+invariant-push_lines-loop-i l = record {
+  adds :
+      AddsLines l.source.counted.now l.first l.levels l.i l.initial.lines.items l.lines.items l.initial.taking l.taking;
   wide : PaysWide 0 l.initial.taking l.taking;
 }

@@ -14,7 +14,7 @@ returns-clause-stand c =
     record {
       offsets = offsets_of numbers;
       header = header_at cache numbers header;
-      magic = c.in_ok-sections.ensures.stand;
+      magic = c.in_ok-magic.ensures.stand;
     }
 
 pub returns-clause-whole : goal.returns-clause-whole
@@ -25,11 +25,11 @@ returns-in_err-header-clause-need c = λ sections has within room.
     let p = err_from_is_err_and c.from_residual.result c.from_residual.ensures.1 in
     rw (p.1, p.2) (c.in_err-header.ensures.need has.offsets has.header within)
 
-pub returns-in_err-sections-clause-need : goal.returns-in_err-sections-clause-need
-returns-in_err-sections-clause-need c = λ sections has within room.
+pub returns-in_err-magic-clause-need : goal.returns-in_err-magic-clause-need
+returns-in_err-magic-clause-need c = λ sections has within room.
     let stand = magic_read c.args.source.now.counted.now c.in_ok-header.header sections c.in_ok-header.ensures.header has in
-    let p = err_from_is_err_and c.from_residual-in_err-sections.result c.from_residual-in_err-sections.ensures.1 in
-    rw (p.1, p.2) (c.in_err-sections.ensures.need sections stand (record {
+    let p = err_from_is_err_and c.from_residual-in_err-magic.result c.from_residual-in_err-magic.ensures.1 in
+    rw (p.1, p.2) (c.in_err-magic.ensures.need sections stand (record {
       records = omega (arith, room.records, c.read_header.ensures.looks.records);
       value_bytes = omega (arith, room.value_bytes, c.read_header.ensures.looks.takes.value_bytes);
     }))

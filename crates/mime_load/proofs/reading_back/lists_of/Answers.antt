@@ -4,7 +4,7 @@ use Rattle.mime_base.specs.Cache.Bytes.{Stands}
 use Rattle.mime_base.specs.Format.Pairs.{PairsAt}
 use Rattle.mime_base.specs.Format.Parents.{ParentsAt}
 use Rattle.mime_load.specs.FirstUnread.{IsFirstUnread}
-use Rattle.mime_load.specs.Lent.{plain_leaves, plain_pairs, plain_rules, plain_sections}
+use Rattle.mime_load.specs.Lent.{plain_leaves, plain_magic, plain_pairs, plain_rules}
 use Rattle.mime_load.specs.MagicStanding.{MagicStands}
 use Rattle.mime_load.specs.Parts.{IsGlobList, IsLiteralList, IsTreeList}
 use Rattle.mime_load.specs.Taking.{TakesSections}
@@ -25,7 +25,7 @@ returns-clause-lists c =
       literals = c.in_ok-literals.literals;
       leaves = c.in_ok-leaves.leaves;
       globs = c.in_ok-globs.globs;
-      sections = c.in_ok-sections.sections;
+      magic = c.in_ok-magic.magic;
       icons = c.in_ok-icons.icons;
       generic_icons = c.in_ok-generic_icons.generic_icons;
     } in
@@ -40,14 +40,14 @@ returns-clause-lists c =
     rw c.in_ok-leaves.ensures.read at c.leaves_at.ensures.stand in
     let globs : IsGlobList cache (slice_index numbers 5) (plain_rules b.globs.items) =
     rw c.in_ok-globs.ensures.read at c.globs_at.ensures.stand in
-    let magic : MagicStands cache (slice_index numbers 6) (plain_sections b.sections.items) =
-    rw c.in_ok-sections.ensures.read at c.sections_at.ensures.stand in
+    let magic : MagicStands cache (slice_index numbers 6) (plain_magic b.magic) =
+    rw c.in_ok-magic.ensures.read at c.magic_at.ensures.stand in
     let icons : PairsAt (Stands cache) (slice_index numbers 8) (plain_pairs b.icons.items) =
     rw c.in_ok-icons.ensures.read at c.icons_at.ensures.stand in
     let generic : PairsAt (Stands cache) (slice_index numbers 9) (plain_pairs b.generic_icons.items) =
     rw c.in_ok-generic_icons.ensures.read at c.icons_at-2.ensures.stand in
-    let took : TakesSections c.globs_at.new.taking c.sections_at.new.taking (plain_sections b.sections.items) =
-    rw c.in_ok-sections.ensures.read at c.sections_at.ensures.taken in
+    let took : TakesSections c.globs_at.new.taking c.magic_at.new.taking (plain_magic b.magic) =
+    rw c.in_ok-magic.ensures.read at c.magic_at.ensures.taken in
     record {
       spelled = spelled cache numbers b header aliases parents literals tree globs magic icons generic;
       limits = limited cache numbers b header aliases parents literals tree globs magic icons generic;
@@ -91,7 +91,7 @@ returns-clause-pays c = record {
         c.literals_at.ensures.takes.pays.nodes_paid,
         c.leaves_at.ensures.takes.pays.nodes_paid,
         c.globs_at.ensures.takes.pays.nodes_paid,
-        c.sections_at.ensures.wide.pays.nodes_paid,
+        c.magic_at.ensures.wide.pays.nodes_paid,
         c.icons_at.ensures.takes.pays.nodes_paid,
         c.icons_at-2.ensures.takes.pays.nodes_paid,
       );
@@ -104,7 +104,7 @@ returns-clause-pays c = record {
         c.literals_at.ensures.takes.pays.bytes_paid,
         c.leaves_at.ensures.takes.pays.bytes_paid,
         c.globs_at.ensures.takes.pays.bytes_paid,
-        c.sections_at.ensures.wide.pays.bytes_paid,
+        c.magic_at.ensures.wide.pays.bytes_paid,
         c.icons_at.ensures.takes.pays.bytes_paid,
         c.icons_at-2.ensures.takes.pays.bytes_paid,
       );
@@ -121,7 +121,7 @@ returns-in_err-generic_icons-clause-pays c = record {
         c.literals_at.ensures.takes.pays.nodes_paid,
         c.leaves_at.ensures.takes.pays.nodes_paid,
         c.globs_at.ensures.takes.pays.nodes_paid,
-        c.sections_at.ensures.wide.pays.nodes_paid,
+        c.magic_at.ensures.wide.pays.nodes_paid,
         c.icons_at.ensures.takes.pays.nodes_paid,
         c.icons_at-2.ensures.takes.pays.nodes_paid,
       );
@@ -134,7 +134,7 @@ returns-in_err-generic_icons-clause-pays c = record {
         c.literals_at.ensures.takes.pays.bytes_paid,
         c.leaves_at.ensures.takes.pays.bytes_paid,
         c.globs_at.ensures.takes.pays.bytes_paid,
-        c.sections_at.ensures.wide.pays.bytes_paid,
+        c.magic_at.ensures.wide.pays.bytes_paid,
         c.icons_at.ensures.takes.pays.bytes_paid,
         c.icons_at-2.ensures.takes.pays.bytes_paid,
       );
@@ -251,13 +251,13 @@ returns-in_err-globs-clause-first c =
       none = λ new stands. f.1 (c.globs_at.ensures.need stands.0 stands.1 (omega (arith, stands.2)));
     }))
 
-pub returns-in_err-sections-clause-first : goal.returns-in_err-sections-clause-first
-returns-in_err-sections-clause-first c =
+pub returns-in_err-magic-clause-first : goal.returns-in_err-magic-clause-first
+returns-in_err-magic-clause-first c =
     let cache = c.args.source.now.counted.now in
     let numbers = c.in_ok-header.header in
-    let p = err_from_is_err_and c.from_residual-in_err-sections.result c.from_residual-in_err-sections.ensures.1 in
+    let p = err_from_is_err_and c.from_residual-in_err-magic.result c.from_residual-in_err-magic.ensures.1 in
     rw (p.1, p.2) (λ part e.
-    let f = c.in_err-sections.ensures.named part e in
+    let f = c.in_err-magic.ensures.named part e in
     let aliases = read_aliases cache numbers (length cache) c.aliases_at.new.taking.records c.in_ok-aliases.aliases.items
     (rw c.in_ok-aliases.ensures.read at c.aliases_at.ensures.stand)
     (omega (arith, c.requires.room.0, c.read_header.ensures.looks.records, c.aliases_at.ensures.looks.records)) in
@@ -276,7 +276,7 @@ returns-in_err-sections-clause-first c =
       stand = before_magic cache numbers (length cache) c.aliases_at.new.taking.records c.parents_at.new.taking.records
           c.literals_at.new.taking.records c.leaves_at.new.taking.records c.globs_at.new.taking.records
           aliases parents literals leaves globs;
-      none = λ new stands. f.1 (c.sections_at.ensures.need stands.0 stands.1 (record {
+      none = λ new stands. f.1 (c.magic_at.ensures.need stands.0 stands.1 (record {
         records = omega (arith, stands.3);
         value_bytes = omega (
           arith,
@@ -310,10 +310,10 @@ returns-in_err-icons-clause-first c =
     (rw c.in_ok-leaves.ensures.read at c.leaves_at.ensures.stand) (rw c.in_ok-leaves.ensures.read at c.leaves_at.ensures.taken) in
     let globs = read_globs cache numbers c.leaves_at.new.taking.records c.globs_at.new.taking.records c.in_ok-globs.globs.items
     (rw c.in_ok-globs.ensures.read at c.globs_at.ensures.stand) (rw c.in_ok-globs.ensures.read at c.globs_at.ensures.taken) in
-    let took : TakesSections c.globs_at.new.taking c.sections_at.new.taking (plain_sections c.in_ok-sections.sections.items) =
-    rw c.in_ok-sections.ensures.read at c.sections_at.ensures.taken in
-    let sections = read_sections cache numbers c.globs_at.new.taking.records c.sections_at.new.taking.records c.in_ok-sections.sections.items
-    (rw c.in_ok-sections.ensures.read at c.sections_at.ensures.stand)
+    let took : TakesSections c.globs_at.new.taking c.magic_at.new.taking (plain_magic c.in_ok-magic.magic) =
+    rw c.in_ok-magic.ensures.read at c.magic_at.ensures.taken in
+    let sections = read_sections cache numbers c.globs_at.new.taking.records c.magic_at.new.taking.records c.in_ok-magic.magic
+    (rw c.in_ok-magic.ensures.read at c.magic_at.ensures.stand)
     (omega (
       arith,
       took.value_bytes,
@@ -329,9 +329,9 @@ returns-in_err-icons-clause-first c =
     subst (IsFirstUnread cache) f.0 (record {
       numbers = numbers;
       header = rw c.in_ok-header.ensures.read at c.read_header.ensures.header;
-      left = c.sections_at.new.taking.records;
+      left = c.magic_at.new.taking.records;
       stand = before_icons cache numbers (length cache) c.aliases_at.new.taking.records c.parents_at.new.taking.records
-          c.literals_at.new.taking.records c.leaves_at.new.taking.records c.globs_at.new.taking.records c.sections_at.new.taking.records
+          c.literals_at.new.taking.records c.leaves_at.new.taking.records c.globs_at.new.taking.records c.magic_at.new.taking.records
           aliases parents literals leaves globs sections;
       none = λ new stands. f.1 (c.icons_at.ensures.need stands.0 stands.1 (omega (arith, stands.2)));
     }))
@@ -354,10 +354,10 @@ returns-in_err-generic_icons-clause-first c =
     (rw c.in_ok-leaves.ensures.read at c.leaves_at.ensures.stand) (rw c.in_ok-leaves.ensures.read at c.leaves_at.ensures.taken) in
     let globs = read_globs cache numbers c.leaves_at.new.taking.records c.globs_at.new.taking.records c.in_ok-globs.globs.items
     (rw c.in_ok-globs.ensures.read at c.globs_at.ensures.stand) (rw c.in_ok-globs.ensures.read at c.globs_at.ensures.taken) in
-    let took : TakesSections c.globs_at.new.taking c.sections_at.new.taking (plain_sections c.in_ok-sections.sections.items) =
-    rw c.in_ok-sections.ensures.read at c.sections_at.ensures.taken in
-    let sections = read_sections cache numbers c.globs_at.new.taking.records c.sections_at.new.taking.records c.in_ok-sections.sections.items
-    (rw c.in_ok-sections.ensures.read at c.sections_at.ensures.stand)
+    let took : TakesSections c.globs_at.new.taking c.magic_at.new.taking (plain_magic c.in_ok-magic.magic) =
+    rw c.in_ok-magic.ensures.read at c.magic_at.ensures.taken in
+    let sections = read_sections cache numbers c.globs_at.new.taking.records c.magic_at.new.taking.records c.in_ok-magic.magic
+    (rw c.in_ok-magic.ensures.read at c.magic_at.ensures.stand)
     (omega (
       arith,
       took.value_bytes,
@@ -370,14 +370,14 @@ returns-in_err-generic_icons-clause-first c =
       c.globs_at.ensures.takes.value_bytes,
     ))
     took.records in
-    let icons = read_icons cache numbers c.sections_at.new.taking.records c.icons_at.new.taking.records c.in_ok-icons.icons.items
+    let icons = read_icons cache numbers c.magic_at.new.taking.records c.icons_at.new.taking.records c.in_ok-icons.icons.items
     (rw c.in_ok-icons.ensures.read at c.icons_at.ensures.stand) (rw c.in_ok-icons.ensures.read at c.icons_at.ensures.taken) in
     subst (IsFirstUnread cache) f.0 (record {
       numbers = numbers;
       header = rw c.in_ok-header.ensures.read at c.read_header.ensures.header;
       left = c.icons_at.new.taking.records;
       stand = before_generic_icons cache numbers (length cache) c.aliases_at.new.taking.records c.parents_at.new.taking.records
-          c.literals_at.new.taking.records c.leaves_at.new.taking.records c.globs_at.new.taking.records c.sections_at.new.taking.records
+          c.literals_at.new.taking.records c.leaves_at.new.taking.records c.globs_at.new.taking.records c.magic_at.new.taking.records
           c.icons_at.new.taking.records aliases parents literals leaves globs sections icons;
       none = λ new stands. f.1 (c.icons_at-2.ensures.need stands.0 stands.1 (omega (arith, stands.2)));
     }))

@@ -8,16 +8,16 @@ use Rattle.mime_lookup.proofs.indexed.first_line.first_line.Goals as goal
 pub among_tables-found-requires-clause-size : goal.among_tables-found-requires-clause-size
 among_tables-found-requires-clause-size g c =
     let heads = c.args.heads.now in
-    c.requires.found.tabled.size ∙ tops-length g.L.MagicLine.plain heads.lines.items heads.tops.items c.requires.found.headed
+    c.requires.found.tabled.size ∙ tops-length (g.S.MagicLines.plain heads.source) heads.lines.items heads.tops.items c.requires.found.headed
     ∙ ap (λ xs. length xs) (sym c.deref-2.ensures.value)
 
 pub returns-clause-first : goal.returns-clause-first
 returns-clause-first g c =
     let heads = c.args.heads.now in
-    let tops = plain_tops g.L.MagicLine.plain heads.tops.items in
+    let tops = plain_tops (g.S.MagicLines.plain heads.source) heads.tops.items in
     is_first heads.lines.items tops c.args.content.now c.args.host c.requires.found.headed (λ i. omega (arith, c.type_inv.content i)) heads.tables
     c.among_tables-found.result c.among_others.result c.requires.found.tabled
-    (rw (c.deref-2.ensures.value, c.new-noted.ensures, ← length-map heads.tops.items (plain_top g.L.MagicLine.plain)) at c.among_tables-found.ensures.narrows)
+    (rw (c.deref-2.ensures.value, c.new-noted.ensures, ← length-map heads.tops.items (plain_top (g.S.MagicLines.plain heads.source))) at c.among_tables-found.ensures.narrows)
     (rw (c.deref-2.ensures.value, c.new-noted.ensures) at c.among_others.ensures.narrows)
     (rw (c.deref-2.ensures.value, c.new-noted.ensures) at c.among_tables-found.ensures.fail)
     (rw (c.deref-2.ensures.value, c.new-noted.ensures, c.deref-3.ensures.value) at c.among_others.ensures.fail)

@@ -7,7 +7,7 @@ abbrev pub invariant-loop-low : goal.invariant-loop-low
 invariant-loop-low g l = record {
   low : l.low ≤ l.fn.until;
   left : (line steps : ℕ) → LeadsChain steps l.nexts 0 l.fn.named line → line < l.fn.until →
-      FailsLine (plain_tops g.L.MagicLine.plain l.asked.tops.now) l.asked.content.now l.asked.host line ⊎ ((more : ℕ) × LeadsChain more l.nexts l.low l.link line);
+      FailsLine (plain_tops (g.S.MagicLines.plain l.asked.source.now) l.asked.tops.now) l.asked.content.now l.asked.host line ⊎ ((more : ℕ) × LeadsChain more l.nexts l.low l.link line);
   nodes : l.meter.nodes ≡ l.fn.meter.nodes;
 }
 

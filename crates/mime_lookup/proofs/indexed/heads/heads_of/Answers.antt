@@ -6,7 +6,7 @@ use Rattle.mime_lookup.proofs.indexed.heads.heads_of.Goals as goal
 
 pub loop-top-preserved : goal.loop-top-preserved
 loop-top-preserved g c =
-    let plain = plain_top g.L.MagicLine.plain in
+    let plain = plain_top (g.S.MagicLines.plain c.args.source) in
     let tops = c.deref-top-items.result.now in
     let top = c.top-item.result in
     let i = c.loop-top.top-index in

@@ -4,4 +4,4 @@ use Rattle.mime_lookup.specs.TopLines.{plain_tops}
 use Rattle.mime_lookup.proofs.indexed.heads.heads_of.Given as goal
 
 abbrev pub invariant-loop-top : goal.invariant-loop-top
-invariant-loop-top g l = AreLineHeads l.lines.items (plain_tops g.L.MagicLine.plain (take l.top-index l.top-items))
+invariant-loop-top g l = AreLineHeads l.lines.items (plain_tops (g.S.MagicLines.plain l.source) (take l.top-index l.top-items))

@@ -1,5 +1,6 @@
 use Rattle.std.proofs.Common.{refl}
-use Rattle.mime_load.specs.Lent.{plain_pair, plain_section}
+use Rattle.mime_load.specs.Lent.{plain_pair}
+use Rattle.mime_tool.proofs.CheckLemmas.LineCounts.{length-sections}
 use Rattle.mime_tool.proofs.CheckLemmas.RuleCounts.{length-plain}
 use Rattle.mime_tool.proofs.check.counts.counts_of.Goals as goal
 
@@ -16,7 +17,7 @@ returns c =
       c.len-5.ensures,
       length-plain lists.aliases plain_pair,
       length-plain lists.parents plain_pair,
-      length-plain lists.sections plain_section,
+      length-sections lists.magic,
       length-plain lists.icons plain_pair,
       length-plain lists.generic_icons plain_pair,
     ) refl

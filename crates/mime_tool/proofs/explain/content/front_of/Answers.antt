@@ -10,7 +10,7 @@ use Rattle.mime_tool.proofs.explain.content.front_of.Goals as goal
 pub returns : goal.returns
 returns g c =
     let b = plain_lists c.args.lists.now in
-    let stated = rw c.as_slice.ensures.value at c.sections_extent.ensures in
+    let stated = c.magic_extent.ensures in
     let greatest = rw c.from.ensures at c.max-limit.ensures in
     let limit = limit-stated b _ _ greatest stated in
     let read = c.in_ok-front.ensures in
