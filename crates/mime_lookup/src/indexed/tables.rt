@@ -36,14 +36,15 @@ pub fn tables_of(alloc: Global, heads: &[LineHead]) -> Result<Tables, OutOfMemor
     // Each line is found by its place and its byte, or is asked by itself.
     ensures { IfOk result (λ tables. AreTables tables heads.now 0) }
 {
-    let places = places_of(alloc, heads)?;
-    let mut firsts = vec![in alloc; 0; places.len() * 256]?;
+    // Of each line first the number of its table, which spares another search for it.
     let mut nexts = vec![in alloc; 0; heads.len()]?;
+    let places = places_of(alloc, heads, &mut nexts)?;
+    let mut firsts = vec![in alloc; 0; places.len() * 256]?;
     let mut others = Vec::new(alloc);
     let mut line = heads.len();
     while line > 0 {
         line -= 1;
-        match slot_of(&heads[line], line, &places) {
+        match slot_of(&heads[line], line, &places, nexts[line]) {
             Some(slot) => link(&mut firsts, &mut nexts, slot, line),
             None => others.push(line)?,
         }
@@ -56,18 +57,26 @@ pub fn tables_of(alloc: Global, heads: &[LineHead]) -> Result<Tables, OutOfMemor
     })
 }
 
-/// The places of lines that have one place, each once, up to as many as there are tables.
-fn places_of(alloc: Global, heads: &[LineHead]) -> Result<Vec<u32>, OutOfMemory>
-    ensures { IfOk result (λ places. length places.items ≤ 256) }
+/// The places of lines that have one place, each once, up to as many as there are tables; and of each line the number
+/// of its table.
+fn places_of(
+    alloc: Global,
+    heads: &[LineHead],
+    numbers: &mut Vec<u16>,
+) -> Result<Vec<u32>, OutOfMemory>
+    requires size { length numbers.old.items ≡ length heads.now }
+    ensures most { IfOk result (λ places. length places.items ≤ 256) }
+    ensures size { length numbers.new.items ≡ length heads.now }
 {
     let mut places = Vec::new(alloc);
-    for head in heads {
-        if head.range == 1
-            && head.size > 0
-            && places.len() < MOST
-            && table_at(&places, head.start) == places.len()
-        {
-            places.push(head.start)?;
+    for line in 0..heads.len() {
+        let head = &heads[line];
+        if head.range == 1 && head.size > 0 {
+            let table = table_at(&places, head.start);
+            numbers[line] = table as u16;
+            if table == places.len() && table < MOST {
+                places.push(head.start)?;
+            }
         }
     }
     Ok(places)
@@ -76,7 +85,8 @@ fn places_of(alloc: Global, heads: &[LineHead]) -> Result<Vec<u32>, OutOfMemory>
 /// The number of the first table of a place, else the number of tables.
 #[inline]
 fn table_at(places: &[u32], place: u32) -> usize
-    ensures { result < length places.now → slice_index places.now result ≡ place }
+    ensures within { result ≤ length places.now }
+    ensures place { result < length places.now → slice_index places.now result ≡ place }
 {
     for table in 0..places.len() {
         if places[table] == place {
@@ -86,19 +96,19 @@ fn table_at(places: &[u32], place: u32) -> usize
     places.len()
 }
 
-/// Where in the tables the first line of the place and the byte of a line is named, if the line has a table.
+/// Where in the tables the first line of the place and the byte of a line is named, if the line has that table.
 #[inline]
-fn slot_of(head: &LineHead, line: usize, places: &[u32]) -> Option<usize>
+fn slot_of(head: &LineHead, line: usize, places: &[u32], table: u16) -> Option<usize>
     requires { length places.now ≤ 256 }
     ensures slot { IfSome result (λ slot. IsSlot places.now slot head.now) }
     ensures inside { IfSome result (λ slot. slot < length places.now * 256) }
     ensures number { IfSome result (λ slot. line < 65535) }
 {
-    if head.range != 1 || head.size == 0 || line >= LAST {
+    let table = usize::from(table);
+    if head.range != 1 || head.size == 0 || line >= LAST || table >= places.len() {
         return None;
     }
-    let table = table_at(places, head.start);
-    if table >= places.len() {
+    if places[table] != head.start {
         return None;
     }
     Some(table * 256 + usize::from(head.first))

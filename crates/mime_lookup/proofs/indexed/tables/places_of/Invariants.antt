@@ -1,5 +1,8 @@
-use Rattle.std.proofs.Common.{◌≤◌, length}
+use Rattle.std.proofs.Common.{◌≡◌, ◌≤◌, length}
 use Rattle.mime_lookup.proofs.indexed.tables.places_of.Given as goal
 
-abbrev pub invariant-loop-head : goal.invariant-loop-head
-invariant-loop-head l = length l.places.items ≤ 256
+abbrev pub invariant-loop-line : goal.invariant-loop-line
+invariant-loop-line l = record {
+  most : length l.places.items ≤ 256;
+  size : length l.numbers.items ≡ length l.heads;
+}
