@@ -1,5 +1,5 @@
 -- Rules of the three lists one after another: each list has its own.
-use Rattle.std.proofs.Common.{◌≡◌, ℕ, ◌+◌, ◌==◌, Bool, true, false, not, ◌&&◌, List, [], ◌∷◌, ◌++◌, length, map, ap, refl, sym, subst, ◌∙◌, arith, true≢false}
+use Rattle.std.proofs.Common.{◌≡◌, ℕ, ◌+◌, ◌==◌, Bool, true, false, not, ◌&&◌, List, [], ◌∷◌, ◌++◌, length, map, ap, refl, sym, subst, ◌∙◌, true≢false}
 use Rattle.std.specs.Prelude.{filter}
 use Rattle.std.specs.List.{All}
 use Rattle.std.proofs.lemmas.List.{append-nil}
@@ -140,16 +140,6 @@ module _ (c : List ℕ) (literals tree globs : ℕ) (first leaves last all : Lis
     where
       same_size : tree_size leaves ≡ tree_size all
       same_size = ap (λ (rules : List GlobRule). length rules + front_count (map reversed_ending rules)) same_leaves
-
-  -- and take as many records as they have
-  pub rules_size : length (literal_rules all) + length (glob_rules all) + tree_size all ≡ length first + length last + tree_size leaves
-  rules_size =
-      omega (
-        arith,
-        ap (λ (rules : List GlobRule). length rules) literal_ones,
-        ap (λ (rules : List GlobRule). length rules) glob_ones,
-        ap (λ (rules : List GlobRule). length rules + front_count (map reversed_ending rules)) same_leaves,
-      )
 
   -- and each keeps its limits
   pub rules_limits : All KeepsLimits all

@@ -1,96 +1,107 @@
--- What was read of a part stands, and took its room.
-use Rattle.std.proofs.Common.{◌≡◌, ◌≤◌, ℕ, ◌+◌, ◌*◌, List, length, slice_index, refl, arith}
+-- The parts of a cache, read one after the other.
+use Rattle.std.proofs.Common.{◌≡◌, ◌≤◌, ℕ, ◌+◌, ◌*◌, List, [], ◌∷◌, ◌++◌, Result, length, slice_index, refl, subst, arith}
 use Rattle.std.proofs.lemmas.List.{length-map}
+use Rattle.std.proofs.lemmas.Result.{err_from_is_err_and}
+use Rattle.std.specs.Prelude.{IfErr, IsErrAnd}
 use Rattle.mime_base.specs.Cache.Bytes.{Stands}
 use Rattle.mime_base.specs.Database.Lent.{plain_rule}
-use Rattle.mime_base.specs.Format.Packed.{matchlet_count, value_length}
+use Rattle.mime_base.specs.Format.Packed.{value_length}
 use Rattle.mime_base.specs.Format.Pairs.{PairsAt}
 use Rattle.mime_base.specs.Format.Parents.{ParentsAt}
 use Rattle.mime_base.specs.Format.SuffixTree.{tree_size}
 use Rattle.mime_base.specs.declared.database.lent.LentRule.{LentRule}
-use Rattle.mime_load.specs.FirstUnread.{PartStands, PartsStand, before}
+use Rattle.mime_load.specs.FirstUnread.{IsFirstUnread, PartStands, PartsStand, StopsAt, before}
 use Rattle.mime_load.specs.Lent.{plain_leaves, plain_magic, plain_pair, plain_pairs, plain_rules}
 use Rattle.mime_load.specs.MagicStanding.{MagicStands}
 use Rattle.mime_load.specs.Parts.{IsGlobList, IsLiteralList, IsTreeList}
+use Rattle.mime_load.specs.Taking.{TakesSections}
+use Rattle.mime_load.specs.Whole.{IsHeader}
 use Rattle.mime_load.specs.declared.leaf.LeafRule.{LeafRule}
 use Rattle.mime_load.specs.declared.pair.LentPair.{LentPair}
+use Rattle.mime_load.specs.declared.part.LoadFault.{LoadFault}
+use Rattle.mime_load.specs.declared.part.LoadFault.TheVariants as load
+use Rattle.mime_load.specs.declared.part.Part.{Part}
 use Rattle.mime_load.specs.declared.part.Part.TheVariants.{Aliases, Subclasses, Literals, Suffixes, Globs, Magic, Icons, GenericIcons}
 use Rattle.mime_load.specs.declared.magic.LentMagic.{LentMagic}
+use Rattle.mime_load.specs.declared.taking.Taking.{Taking}
+
+-- The header stands and the parts before one do, in the cache's length, of which that much is left.
+pub record Reaches (c numbers : List ℕ) (part : Part) (left : ℕ) : Type 0 where
+  pub header : IsHeader c numbers
+  pub stand : PartsStand c numbers (before part) (length c) left
+
+-- one more part after others
+parts_more : (c numbers : List ℕ) (parts : List Part) (part : Part) (old left new : ℕ) → PartsStand c numbers parts old left
+    → PartStands c numbers part left new → PartsStand c numbers (parts ++ part ∷ []) old new
+parts_more c numbers [] part old left new same stands = (new, subst (λ (n : ℕ). PartStands c numbers part n new) same stands, refl)
+parts_more c numbers (first ∷ parts) part old left new (mid, here, rest) stands =
+    (mid, here, parts_more c numbers parts part mid left new rest stands)
+
+-- a part that stands is one more before the next
+goes_on : (c numbers : List ℕ) (part next : Part) (old new : ℕ) → before part ++ part ∷ [] ≡ before next → Reaches c numbers part old
+    → PartStands c numbers part old new → Reaches c numbers next new
+goes_on c numbers part next old new order reached stands = record {
+  header = reached.header;
+  stand = subst (λ (parts : List Part). PartsStand c numbers parts (length c) new) order
+      (parts_more c numbers (before part) part (length c) old new reached.stand stands);
+}
+
+-- one that stands nowhere is where reading stops
+pub stops : (c numbers : List ℕ) (part : Part) (left : ℕ) → Reaches c numbers part left
+    → ((new : ℕ) → PartStands c numbers part left new → ⊥) → StopsAt c part
+stops c numbers part left reached none =
+    record { numbers = numbers; header = reached.header; left = left; stand = reached.stand; none = none }
+
+-- the fault of a part names the first that isn't read back
+pub names_first : {T Short : Type 0} (c : List ℕ) (part : Part) (result : Result T LoadFault) (fault : LoadFault)
+    → IsErrAnd result (λ e. e ≡ fault) → ((named : Part) → fault ≡ load.NoDatabase named → (part ≡ named) × (Short → ⊥))
+    → ((Short → ⊥) → IsFirstUnread c part)
+    → IfErr result (λ e. (named : Part) → e ≡ load.NoDatabase named → IsFirstUnread c named)
+names_first c part result fault passed named first =
+    let p = err_from_is_err_and result passed in
+    rw (p.1, p.2) (λ other e. subst (IsFirstUnread c) (named other e).0 (first (named other e).1))
 
 module _ (c numbers : List ℕ) (old new : ℕ) where
-  -- aliases, which take none
-  pub read_aliases : (items : List LentPair) → PairsAt (Stands c) (slice_index numbers 1) (plain_pairs items) → new ≡ old
-      → PartStands c numbers Aliases old new
-  read_aliases items stand taken = (plain_pairs items, stand, taken)
+  -- aliases take no room
+  pub after_aliases : (items : List LentPair) → Reaches c numbers Aliases old
+      → PairsAt (Stands c) (slice_index numbers 1) (plain_pairs items) → new ≡ old → Reaches c numbers Subclasses new
+  after_aliases items reached stand taken = goes_on c numbers Aliases Subclasses old new refl reached (plain_pairs items, stand, taken)
 
   -- parents
-  pub read_parents : (items : List LentPair) → ParentsAt (Stands c) (slice_index numbers 2) (plain_pairs items)
-      → new + 4 * length items ≡ old → PartStands c numbers Subclasses old new
-  read_parents items stand taken = (plain_pairs items, stand, omega (arith, taken, length-map items plain_pair))
+  pub after_parents : (items : List LentPair) → Reaches c numbers Subclasses old
+      → ParentsAt (Stands c) (slice_index numbers 2) (plain_pairs items) → new + 4 * length items ≡ old → Reaches c numbers Literals new
+  after_parents items reached stand taken =
+      goes_on c numbers Subclasses Literals old new refl reached
+      (plain_pairs items, stand, omega (arith, taken, length-map items plain_pair))
 
   -- literals
-  pub read_literals : (items : List LentRule) → IsLiteralList c (slice_index numbers 3) (plain_rules items)
-      → new + 12 * length items ≡ old → PartStands c numbers Literals old new
-  read_literals items stand taken = (plain_rules items, stand, omega (arith, taken, length-map items plain_rule))
+  pub after_literals : (items : List LentRule) → Reaches c numbers Literals old
+      → IsLiteralList c (slice_index numbers 3) (plain_rules items) → new + 12 * length items ≡ old → Reaches c numbers Suffixes new
+  after_literals items reached stand taken =
+      goes_on c numbers Literals Suffixes old new refl reached (plain_rules items, stand, omega (arith, taken, length-map items plain_rule))
 
   -- a tree
-  pub read_leaves : (items : List LeafRule) → IsTreeList c (slice_index numbers 4) (plain_leaves items)
-      → new + 12 * tree_size (plain_leaves items) ≡ old → PartStands c numbers Suffixes old new
-  read_leaves items stand taken = (plain_leaves items, stand, taken)
+  pub after_leaves : (items : List LeafRule) → Reaches c numbers Suffixes old
+      → IsTreeList c (slice_index numbers 4) (plain_leaves items) → new + 12 * tree_size (plain_leaves items) ≡ old
+      → Reaches c numbers Globs new
+  after_leaves items reached stand taken = goes_on c numbers Suffixes Globs old new refl reached (plain_leaves items, stand, taken)
 
   -- globs
-  pub read_globs : (items : List LentRule) → IsGlobList c (slice_index numbers 5) (plain_rules items)
-      → new + 12 * length items ≡ old → PartStands c numbers Globs old new
-  read_globs items stand taken = (plain_rules items, stand, omega (arith, taken, length-map items plain_rule))
-
-  -- sections
-  pub read_sections : (magic : LentMagic) → MagicStands c (slice_index numbers 6) (plain_magic magic)
-      → value_length (plain_magic magic) ≤ length c
-      → new + (16 * length (plain_magic magic) + 32 * matchlet_count (plain_magic magic)) ≡ old → PartStands c numbers Magic old new
-  read_sections magic stand values taken = (plain_magic magic, stand, values, taken)
+  pub after_globs : (items : List LentRule) → Reaches c numbers Globs old
+      → IsGlobList c (slice_index numbers 5) (plain_rules items) → new + 12 * length items ≡ old → Reaches c numbers Magic new
+  after_globs items reached stand taken =
+      goes_on c numbers Globs Magic old new refl reached (plain_rules items, stand, omega (arith, taken, length-map items plain_rule))
 
   -- icons
-  pub read_icons : (items : List LentPair) → PairsAt (Stands c) (slice_index numbers 8) (plain_pairs items)
-      → new + 8 * length items ≡ old → PartStands c numbers Icons old new
-  read_icons items stand taken = (plain_pairs items, stand, omega (arith, taken, length-map items plain_pair))
+  pub after_icons : (items : List LentPair) → Reaches c numbers Icons old
+      → PairsAt (Stands c) (slice_index numbers 8) (plain_pairs items) → new + 8 * length items ≡ old → Reaches c numbers GenericIcons new
+  after_icons items reached stand taken =
+      goes_on c numbers Icons GenericIcons old new refl reached (plain_pairs items, stand, omega (arith, taken, length-map items plain_pair))
 
--- the parts before each one stand, one after the other
-module _ (c numbers : List ℕ) where
-  -- two before literals
-  pub before_literals : (a b d : ℕ) → PartStands c numbers Aliases a b → PartStands c numbers Subclasses b d
-      → PartsStand c numbers (before Literals) a d
-  before_literals a b d first second =
-      (b, first, (d, second, refl))
-
-  -- three before the tree
-  pub before_suffixes : (a b d e : ℕ) → PartStands c numbers Aliases a b → PartStands c numbers Subclasses b d
-      → PartStands c numbers Literals d e → PartsStand c numbers (before Suffixes) a e
-  before_suffixes a b d e first second third =
-      (b, first, (d, second, (e, third, refl)))
-
-  -- four before globs
-  pub before_globs : (a b d e f : ℕ) → PartStands c numbers Aliases a b → PartStands c numbers Subclasses b d
-      → PartStands c numbers Literals d e → PartStands c numbers Suffixes e f → PartsStand c numbers (before Globs) a f
-  before_globs a b d e f first second third fourth =
-      (b, first, (d, second, (e, third, (f, fourth, refl))))
-
-  -- five before magic
-  pub before_magic : (a b d e f g : ℕ) → PartStands c numbers Aliases a b → PartStands c numbers Subclasses b d
-      → PartStands c numbers Literals d e → PartStands c numbers Suffixes e f → PartStands c numbers Globs f g
-      → PartsStand c numbers (before Magic) a g
-  before_magic a b d e f g first second third fourth fifth =
-      (b, first, (d, second, (e, third, (f, fourth, (g, fifth, refl)))))
-
-  -- six before icons
-  pub before_icons : (a b d e f g h : ℕ) → PartStands c numbers Aliases a b → PartStands c numbers Subclasses b d
-      → PartStands c numbers Literals d e → PartStands c numbers Suffixes e f → PartStands c numbers Globs f g
-      → PartStands c numbers Magic g h → PartsStand c numbers (before Icons) a h
-  before_icons a b d e f g h first second third fourth fifth sixth =
-      (b, first, (d, second, (e, third, (f, fourth, (g, fifth, (h, sixth, refl))))))
-
-  -- seven before generic icons
-  pub before_generic_icons : (a b d e f g h i : ℕ) → PartStands c numbers Aliases a b → PartStands c numbers Subclasses b d
-      → PartStands c numbers Literals d e → PartStands c numbers Suffixes e f → PartStands c numbers Globs f g
-      → PartStands c numbers Magic g h → PartStands c numbers Icons h i → PartsStand c numbers (before GenericIcons) a i
-  before_generic_icons a b d e f g h i first second third fourth fifth sixth seventh =
-      (b, first, (d, second, (e, third, (f, fourth, (g, fifth, (h, sixth, (i, seventh, refl)))))))
+-- sections, whose values take the cache's length at most
+pub after_magic : (c numbers : List ℕ) (old new : Taking) (magic : LentMagic) → Reaches c numbers Magic old.records
+    → old.value_bytes ≡ length c → MagicStands c (slice_index numbers 6) (plain_magic magic) → TakesSections old new (plain_magic magic)
+    → Reaches c numbers Icons new.records
+after_magic c numbers old new magic reached room stand took =
+    let within : value_length (plain_magic magic) ≤ length c = omega (arith, room, took.value_bytes) in
+    goes_on c numbers Magic Icons old.records new.records refl reached (plain_magic magic, stand, within, took.records)

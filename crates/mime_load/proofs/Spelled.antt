@@ -4,20 +4,22 @@ use Rattle.std.proofs.lemmas.List.{length-map}
 use Rattle.mime_base.specs.Cache.Bytes.{Stands}
 use Rattle.mime_base.specs.Database.Limits.{IsWithinLimits}
 use Rattle.mime_base.specs.Format.Header.{HeaderAt, Offsets}
-use Rattle.mime_base.specs.Format.Packed.{matchlet_count, record_bytes}
+use Rattle.mime_base.specs.Format.Packed.{value_length}
 use Rattle.mime_base.specs.Format.Pairs.{PairsAt}
 use Rattle.mime_base.specs.Format.Parents.{ParentsAt}
 use Rattle.mime_base.specs.Format.Records.{CardsAt}
-use Rattle.mime_base.specs.Format.SuffixTree.{tree_size}
 use Rattle.mime_base.specs.Format.Spells.{Spells}
 use Rattle.mime_base.specs.declared.database.rule.GlobRule.{GlobRule}
-use Rattle.mime_base.specs.Database.Lent.{plain_rule}
 use Rattle.mime_load.specs.Lent.{plain_leaves, plain_lists, plain_magic, plain_pair, plain_pairs, plain_rules}
 use Rattle.mime_load.specs.MagicStanding.{MagicStands}
 use Rattle.mime_load.specs.Parts.{IsGlobList, IsLiteralList, IsTreeList}
-use Rattle.mime_load.specs.Whole.{IsHeader}
+use Rattle.mime_load.specs.Whole.{AreLists, IsHeader}
 use Rattle.mime_load.specs.declared.lists.Lists.{Lists}
-use Rattle.mime_load.proofs.JoinedRules.{rules_limits, rules_size, rules_stand}
+use Rattle.mime_load.specs.declared.part.Part.TheVariants.{GenericIcons}
+use Rattle.mime_load.specs.declared.taking.Taking.{Taking}
+use Rattle.mime_load.proofs.JoinedRules.{rules_limits, rules_stand}
+use Rattle.mime_load.proofs.PartsRead.{Reaches}
+use Rattle.mime_load.proofs.UnreadLemmas.{all_taken}
 
 -- where a header says that each part begins
 abbrev pub offsets_of : List ℕ → Offsets
@@ -99,19 +101,12 @@ module _ (c numbers : List ℕ) (b : Lists) (header : IsHeader c numbers)
     lines = magic.allowed;
   }
 
-  -- their records
-  pub sized : record_bytes (plain_lists b)
-      ≡ 12 * (length b.literals.items + length b.globs.items + tree_size (plain_leaves b.leaves.items))
-      + 16 * length (plain_magic b.magic) + 32 * matchlet_count (plain_magic b.magic)
-      + 4 * length b.parents.items + 8 * (length b.icons.items + length b.generic_icons.items)
-  sized =
-      omega (
-        arith,
-        rules_size c (slice_index numbers 3) (slice_index numbers 4) (slice_index numbers 5) (plain_rules b.literals.items)
-            (plain_leaves b.leaves.items) (plain_rules b.globs.items) all refl literals tree globs,
-        length-map b.literals.items plain_rule,
-        length-map b.globs.items plain_rule,
-        length-map b.parents.items plain_pair,
-        length-map b.icons.items plain_pair,
-        length-map b.generic_icons.items plain_pair,
-      )
+  -- they are the lists of the cache, and took their room
+  pub are_lists : (old new : Taking) (left : ℕ) → Reaches c numbers GenericIcons left
+      → new.records + 8 * length b.generic_icons.items ≡ left → old.records ≡ length c
+      → new.value_bytes + value_length (plain_magic b.magic) ≡ old.value_bytes → AreLists c old new b
+  are_lists old new left reached taken room values =
+      let last = length-map b.generic_icons.items plain_pair in
+      let all = all_taken c numbers (plain_lists b) header limited spelled left new.records reached.stand
+      (plain_pairs b.generic_icons.items, generic, omega (arith, taken, last)) in
+      record { spelled = spelled; limits = limited; records = omega (arith, room, all); values = values }

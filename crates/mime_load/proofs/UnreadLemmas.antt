@@ -1,4 +1,4 @@
--- No part of a packed database that a cache spells is unread.
+-- What the parts of a database that a cache spells take, and that none is unread if it is packed.
 use Rattle.std.proofs.Common.{◌≡◌, ◌≤◌, ℕ, ◌+◌, ◌-◌, ◌*◌, List, [], ◌∷◌, length, slice_index, refl, subst, arith}
 use Rattle.mime_base.specs.Database.{PlainDatabase}
 use Rattle.mime_base.specs.Database.Limits.{IsWithinLimits}
@@ -9,6 +9,7 @@ use Rattle.mime_base.specs.Format.Stored.{glob_rules, literal_rules, tree_rules}
 use Rattle.mime_base.specs.Format.SuffixTree.{tree_size}
 use Rattle.mime_base.specs.Magic.{PlainSection}
 use Rattle.mime_load.specs.FirstUnread.{IsFirstUnread, PartStands, PartsStand, StopsAt, before}
+use Rattle.mime_load.specs.Whole.{IsHeader}
 use Rattle.mime_load.specs.declared.part.LoadFault.{LoadFault}
 use Rattle.mime_load.specs.declared.part.LoadFault.TheVariants as load
 use Rattle.mime_load.specs.declared.part.Part.{Part}
@@ -93,6 +94,18 @@ module _ (c numbers : List ℕ) (b : PlainDatabase) (read : ReadsDatabase c numb
   part_stands Magic old new values room = (b.sections, read.magic, values, room)
   part_stands Icons old new values room = (b.icons, read.icons, room)
   part_stands GenericIcons old new values room = (b.generic_icons, read.generic_icons, room)
+
+-- the parts of a database that is spelled take the bytes of its records
+pub all_taken : (c numbers : List ℕ) (b : PlainDatabase) → IsHeader c numbers → IsWithinLimits b → Spells c b → (left new : ℕ)
+    → PartsStand c numbers (before GenericIcons) (length c) left → PartStands c numbers GenericIcons left new
+    → new + record_bytes b ≡ length c
+all_taken c numbers b header limits spelled left new stand last =
+    let read = database_read c numbers b header limits spelled in
+    omega (
+      arith,
+      parts_taken c numbers b read (before GenericIcons) (length c) left stand,
+      part_taken c numbers b read GenericIcons left new last,
+    )
 
 module _ (c : List ℕ) (b : PlainDatabase) (limits : IsWithinLimits b) (spelled : Spells c b) (packed : Packed c b) where
   -- reading stops at no part
