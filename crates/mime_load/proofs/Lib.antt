@@ -1,5 +1,6 @@
 pub mod AddedLines
 pub mod AddedSections
+pub mod EndedPaths
 pub mod EndedTrees
 pub mod Extents
 pub mod FlatLines
@@ -7,6 +8,7 @@ pub mod HoldingLines
 pub mod JoinedLines
 pub mod JoinedRules
 pub mod LineLemmas
+pub mod LinesRead
 pub mod MagicAlone
 pub mod NextRecords
 pub mod NextSiblings
@@ -16,6 +18,7 @@ pub mod ParentEntries
 pub mod ParentSums
 pub mod ParentTypes
 pub mod ParentsRead
+pub mod ParentsWhole
 pub mod PartsRead
 pub mod RecordLemmas
 pub mod RoomLeft
@@ -25,6 +28,7 @@ pub mod RulesAlone
 pub mod RulesRead
 pub mod SameLemmas
 pub mod SectionLemmas
+pub mod SectionsRead
 pub mod SetEntries
 pub mod SiblingCounts
 pub mod SiblingsRead
@@ -34,6 +38,7 @@ pub mod StoredPatterns
 pub mod TakingLemmas
 pub mod TreeFronts
 pub mod TreeLists
+pub mod TreePaths
 pub mod TreeWalks
 pub mod UnreadLemmas
 pub mod WholeLemmas

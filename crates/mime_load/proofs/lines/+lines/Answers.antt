@@ -5,7 +5,8 @@ use Rattle.mime_base.specs.Magic.{PlainLine, bare, line}
 use Rattle.mime_load.specs.MagicStanding.{ForestStands, plain_own}
 use Rattle.mime_load.specs.Taking.{HasRoomForLines}
 use Rattle.mime_load.proofs.AddedLines.{adds_childless, adds_line, adds_more, length-added, pushed_entry}
-use Rattle.mime_load.proofs.SameLemmas.{next_line, no_levels, opened, same_line}
+use Rattle.mime_load.proofs.LinesRead.{next_line, no_levels}
+use Rattle.mime_load.proofs.SameLemmas.{opened, same_line}
 use Rattle.mime_load.proofs.TakingLemmas.{wide_then}
 use Rattle.mime_load.proofs.lines.+lines.Goals as goal
 

@@ -1,6 +1,6 @@
 use Rattle.std.proofs.Common.{refl, sym, ◌∙◌, ⊎_elim, arith}
 use Rattle.mime_load.proofs.LineLemmas.{own_stands}
-use Rattle.mime_load.proofs.SameLemmas.{line_inside, line_read}
+use Rattle.mime_load.proofs.LinesRead.{line_inside, line_read}
 use Rattle.mime_load.proofs.own.own_at.Goals as goal
 
 pub returns-clause-stands : goal.returns-clause-stands

@@ -6,7 +6,8 @@ use Rattle.mime_base.specs.Database.Subclass.{parents}
 use Rattle.mime_base.specs.Format.Parents.{IsSubclass, ParentsAt}
 use Rattle.mime_base.specs.Format.Records.{CardsAt}
 use Rattle.mime_load.specs.Lent.{plain_pair, plain_pairs}
-use Rattle.mime_load.proofs.ParentEntries.{entries_more, entries_none, parents_whole}
+use Rattle.mime_load.proofs.ParentEntries.{entries_more, entries_none}
+use Rattle.mime_load.proofs.ParentsWhole.{parents_whole}
 use Rattle.mime_load.proofs.NextRecords.{list_inside}
 use Rattle.mime_load.proofs.ParentTypes.{kind_parents, kind_there, next_parents, next_rises}
 use Rattle.mime_load.proofs.ParentsRead.{subclass_long}

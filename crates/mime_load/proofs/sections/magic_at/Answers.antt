@@ -7,7 +7,8 @@ use Rattle.mime_load.specs.MagicStanding.{MagicStands}
 use Rattle.mime_load.proofs.AddedSections.{length-read}
 use Rattle.mime_load.proofs.FlatLines.{sections_over-flat}
 use Rattle.mime_load.proofs.SectionLemmas.{magic_stands}
-use Rattle.mime_load.proofs.WholeLemmas.{head_inside, head_read, same_magic, same_sections}
+use Rattle.mime_load.proofs.SectionsRead.{head_inside, head_read}
+use Rattle.mime_load.proofs.WholeLemmas.{same_magic, same_sections}
 use Rattle.mime_load.proofs.sections.magic_at.Goals as goal
 
 pub returns-clause-stand : goal.returns-clause-stand

@@ -3,7 +3,7 @@ use Rattle.std.proofs.lemmas.Result.{err_from_is_err_and}
 use Rattle.mime_base.specs.Cache.Texts.{text_at}
 use Rattle.mime_load.proofs.AddedLines.{length-added}
 use Rattle.mime_load.proofs.AddedSections.{adds_section}
-use Rattle.mime_load.proofs.WholeLemmas.{section_inside, section_read}
+use Rattle.mime_load.proofs.SectionsRead.{section_inside, section_read}
 use Rattle.mime_load.proofs.sections.section_at.Goals as goal
 
 pub overflow_sub-result : goal.overflow_sub-result
