@@ -5,6 +5,7 @@ pub mod Content
 pub mod Ancestry
 pub mod Marks
 pub mod Places
+pub mod Climbing
 pub mod Script
 pub mod Reads
 pub mod Spelling

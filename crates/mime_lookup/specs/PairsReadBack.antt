@@ -1,19 +1,17 @@
 -- The aliases and the parents of a cache that were read back, and what is above a type by them.
-use Rattle.std.specs.Prelude.{◌≡◌, ◌↔◌, ℕ, Bool, true, false, IsTrue, List, [], bytes_eq, get_or, length}
+use Rattle.std.specs.Prelude.{◌≡◌, ℕ, Bool, true, false, List, [], bytes_eq, get_or, length}
 use Rattle.std.specs.Borrow.{Bor}
 use Rattle.std.specs.HashMap.{HashMap, get_by}
 use Rattle.std.specs.List.{All}
 use Rattle.std.specs.Option.{option_map_or}
 use Rattle.mime_base.specs.Database.{PlainDatabase, pairs_of}
-use Rattle.mime_base.specs.Database.Subclass.{IsA, Pairs, above}
+use Rattle.mime_base.specs.Database.Subclass.{above}
 use Rattle.mime_load.specs.declared.pair.LentPair.{LentPair}
 use Rattle.mime_lookup.specs.Marks.{mark}
 use Rattle.mime_lookup.specs.Places.{IsAbove}
 use Rattle.mime_lookup.specs.Spelling.{SpellsPairs}
 use Rattle.mime_lookup.specs.declared.places.Above.{Above}
 use Rattle.mime_lookup.specs.declared.places.Above.TheVariants.{Nothing}
-use Rattle.mime_lookup.specs.declared.read_back.pairs.Climbed.{Climbed}
-use Rattle.mime_lookup.specs.declared.read_back.pairs.Climbed.TheVariants.{Found, Open}
 
 -- what a map has above a type, or nothing
 abbrev pub step_in : {S : Type 0} → HashMap (Bor (List ℕ)) Above S → List ℕ → Above
@@ -47,8 +45,3 @@ pub record AreStepsOf {S : Type 0} (c : List ℕ) (marks : List Bool) (steps : H
   pub are : AreSteps (above (pairs_of database)) steps
   -- Nothing is above a type without its mark.
   pub others : Unmarked (λ kind. above (pairs_of database) kind ≡ []) marks
-
--- what a climb from a type to a base says: whether it is the base or a subclass, or that it is if another is
-abbrev pub IsClimbed : Pairs → List ℕ → List ℕ → Climbed → Type 0
-IsClimbed pairs kind base (Found is) = IsTrue is ↔ IsA pairs kind base
-IsClimbed pairs kind base (Open here) = IsA pairs kind base ↔ IsA pairs here.now base

@@ -24,7 +24,7 @@
 //! `cached::ancestry`, the search for a subclass. `content` and `reading` are what a lookup reads from and
 //! how. `checking` has the same steps over a database, with `sniff`; what they ask of one is `asked`. `lists` answers it
 //! by trying all, with `kept`, `candidates` and `ancestry`, the last over `places`, the index of the pairs, and
-//! `indexed` by its parts.
+//! `indexed` by its parts. `climb` is what a question for a subclass begins with where the pairs are at hand.
 #![tactic(auto)]
 
 mod ancestry;
@@ -33,6 +33,7 @@ mod asked;
 mod cached;
 mod candidates;
 mod checking;
+mod climb;
 mod content;
 mod fixed;
 mod indexed;

@@ -10,6 +10,7 @@ ghost use Rattle.mime_base.specs.declared.database.pair.Pair as plain;
 ghost use Rattle.mime_base.specs.Database.Subclass.{resolved};
 ghost use Rattle.mime_lookup.specs.Places.{ArePlaced, IsAbove, IsPlaced, place_in, placed};
 
+use crate::climb::Hierarchy;
 use crate::places::marks::{MARKS, mark_of};
 use crate::queue::Queue;
 use indexmap::IndexMap;
@@ -126,8 +127,8 @@ fn target_at<'a>(pairs: &'a [Pair], place: usize) -> &'a [u8]
     pair.target.bytes()
 }
 
-/// What is one step above a type.
-pub fn above_of<'a>(both: &PlacedPairs<'a>, kind: &[u8]) -> Above<'a>
+/// What is one step above a type, by these places.
+fn above_of<'a>(both: &PlacedPairs<'a>, kind: &[u8]) -> Above<'a>
     // The places are of all pairs.
     requires placed { ArePlaced both.now }
     // It says what is above the type, unless it has several parents.
@@ -142,6 +143,19 @@ pub fn above_of<'a>(both: &PlacedPairs<'a>, kind: &[u8]) -> Above<'a>
         return Above::Several;
     }
     Above::One(unalias_at(&both.aliases, target_at(pairs, place)))
+}
+
+impl<'a> Hierarchy<'a> for PlacedPairs<'a> {
+    ghost use Rattle.std.specs.Prelude.{◌≡◌};
+    ghost use Rattle.mime_lookup.specs.Places.{ArePlaced, placed};
+
+    ghost holds = { ArePlaced };
+
+    ghost is_of = { λ both pairs. pairs ≡ placed both };
+
+    fn above(&self, kind: &[u8]) -> Above<'a> {
+        above_of(self, kind)
+    }
 }
 
 /// Puts the parents of a type at the end of a queue, each after one alias step.

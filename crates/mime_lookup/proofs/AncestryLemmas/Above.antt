@@ -1,7 +1,9 @@
 -- What is one step above a type: nothing, or one type.
-use Rattle.std.proofs.Common.{◌≡◌, ◌↔◌, ℕ, ◌+◌, false, List, [], ◌∷◌, length, get_or, drop, Option, None, Some}
+use Rattle.std.proofs.Common.{◌≡◌, ◌↔◌, ℕ, ◌+◌, Bool, false, List, [], ◌∷◌, length, get_or, drop, Option, None, Some}
 use Rattle.std.proofs.Common.{refl, sym, ap, subst, ◌∙◌, arith, true≢false}
 use Rattle.std.specs.Option.{is_some}
+use Rattle.std.specs.Prelude.{IfOk, IsTrue, Result}
+use Rattle.std.proofs.lemmas.Result.{IfOk-weaker}
 use Rattle.std.proofs.lemmas.Slice.Eq.{bytes_eq-Decides}
 use Rattle.mime_base.specs.Database.PlainPairs.{plain_pairs}
 use Rattle.mime_base.specs.Database.Subclass.{IsA, IsPath, Pairs, above, is_by_itself, parents}
@@ -26,6 +28,14 @@ parents-only pairs kind place k pair first next indexed here size last is =
     here.2 ∙ parents-low pairs place pair here.1 is kind
     ∙ parents-here pair.name pair.target kind _ ((bytes_eq-Decides pair.name kind).1 name)
     ∙ ap (λ ps. pair.target ∷ ps) (ap (λ n. parents (plain_pairs (drop (place + 1) pairs)) n) (sym name) ∙ none)
+
+-- what a search says of where a climb ended, it says of where that began
+pub goes_on : {E : Type 0} (result : Result Bool E) (pairs : Pairs) (kind here base : List ℕ) →
+    IsA pairs kind base ↔ IsA pairs here base → IfOk result (λ is. IsTrue is ↔ IsA pairs here base) →
+    IfOk result (λ is. IsTrue is ↔ IsA pairs kind base)
+goes_on result pairs kind here base climbed =
+    IfOk-weaker result (λ is. IsTrue is ↔ IsA pairs here base) (λ is. IsTrue is ↔ IsA pairs kind base)
+    (λ is says. ((λ found. climbed.1 (says.0 found)), (λ is_a. says.1 (climbed.0 is_a))))
 
 module _ (pairs : Pairs) (kind base : List ℕ) (other : is_by_itself kind base ≡ false) where
   -- a type with nothing above it is another only by itself

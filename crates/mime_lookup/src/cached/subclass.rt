@@ -10,7 +10,8 @@ ghost use Rattle.mime_view.specs.Spending.{Looks};
 
 use crate::cached::ancestry::leads_to;
 use crate::cached::indexed_cache::IndexedCache;
-use crate::read_back::pairs::{Climbed, IndexedPairs};
+use crate::climb::{Climbed, climb};
+use crate::read_back::pairs::IndexedPairs;
 use crate::stopped::{Cause, Stopped};
 use mime_base::{Counted, Meter, TypeName};
 use mime_view::{CacheFault, Marks, Spending};
@@ -162,13 +163,13 @@ fn search<'k, 'a: 'k>(
     ensures cost { Costs search_cost 0 87 spending.old spending.new }
 {
     match indexed.pairs() {
-        Some(pairs) => climb(alloc, indexed, pairs, kind, base, spending),
+        Some(pairs) => by_pairs(alloc, indexed, pairs, kind, base, spending),
         None => walk(alloc, indexed, kind, base, spending),
     }
 }
 
 /// The same by the pairs that were read back, and by a walk from a type that has several parents.
-fn climb<'k, 'a: 'k>(
+fn by_pairs<'k, 'a: 'k>(
     alloc: Global,
     indexed: &IndexedCache<'a>,
     pairs: &IndexedPairs<'a>,
@@ -190,7 +191,7 @@ fn climb<'k, 'a: 'k>(
     ensures cost { Costs search_cost 0 29 spending.old spending.new }
 {
     let base = pairs.unalias(base);
-    match pairs.climb(pairs.unalias(kind), base) {
+    match climb(pairs, pairs.unalias(kind), base, &mut Meter::new()) {
         Climbed::Found(is) => Ok(is),
         Climbed::Open(here) => leads_to(
             alloc,

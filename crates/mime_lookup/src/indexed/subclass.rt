@@ -6,14 +6,11 @@ ghost use Rattle.mime_base.specs.Database.Subclass.{IsA, resolved};
 ghost use Rattle.mime_lookup.specs.Places.{ArePlaced, placed};
 
 use crate::ancestry::leads_to;
+use crate::climb::{Climbed, climb};
 use crate::indexed::IndexedDatabase;
-use crate::places::{Above, PlacedPairs, above_of, unalias_at};
-use crate::subclass::is_by_itself;
+use crate::places::{PlacedPairs, unalias_at};
 use mime_base::{Meter, OutOfMemory, TypeName};
 use std::alloc::Global;
-
-/// How many steps up are made where each type has one parent, before types are marked.
-const STEPS: u32 = 16;
 
 /// Whether a type is another or a subclass of it, over an index ("Subclassing"), and what was compared.
 ///
@@ -39,7 +36,6 @@ pub fn is_a_indexed<'a>(
 }
 
 /// Whether a type is the base or a subclass of it.
-// As `leads_to`, but nothing is marked or queued while each type has one parent.
 fn climbs_to<'a>(
     alloc: Global,
     both: &PlacedPairs<'a>,
@@ -51,17 +47,8 @@ fn climbs_to<'a>(
     ensures nodes { meter.new.nodes ≡ meter.old.nodes }
     ensures answer { IfOk result (λ is. IsTrue is ↔ IsA (placed both.now) kind.entry.now base.now) }
 {
-    let mut here = kind;
-    for _ in 0..STEPS {
-        if is_by_itself(here, base, meter) {
-            return Ok(true);
-        }
-        match above_of(both, here) {
-            Above::Nothing => return Ok(false),
-            Above::One(parent) => here = parent,
-            Above::Several => break,
-        }
+    match climb(both, kind, base, meter) {
+        Climbed::Found(is) => Ok(is),
+        Climbed::Open(here) => leads_to(alloc, both, here, base, meter),
     }
-    let is = leads_to(alloc, both, here, base, meter)?;
-    Ok(is)
 }

@@ -7,14 +7,11 @@ ghost use Rattle.mime_base.specs.Database.Subclass.{IsA, resolved};
 ghost use Rattle.mime_lookup.specs.Places.{IsAbove, pairs_at};
 
 use crate::ancestry::leads_to;
+use crate::climb::{Climbed, Hierarchy, climb};
 use crate::pairs::{is_same, unalias};
 use crate::places::{Above, placed_pairs};
-use crate::subclass::is_by_itself;
 use mime_base::{Database, Meter, OutOfMemory, Pair, TypeName};
 use std::alloc::Global;
-
-/// How many steps up are made through all pairs, before the places of pairs are looked up.
-const STEPS: u32 = 16;
 
 /// Whether a type is another or a subclass of it, over a database ("Subclassing"), and what was compared.
 ///
@@ -52,18 +49,10 @@ fn climbs_to<'a>(
     ensures nodes { meter.new.nodes ≡ meter.old.nodes }
     ensures answer { IfOk result (λ is. IsTrue is ↔ IsA (pairs_of (plain_database database.entry.now)) kind.entry.now base.now) }
 {
-    let mut here = kind;
-    for _ in 0..STEPS {
-        if is_by_itself(here, base, meter) {
-            return Ok(true);
-        }
-        match above_among(&database.aliases, &database.parents, here) {
-            Above::Nothing => return Ok(false),
-            Above::One(parent) => here = parent,
-            Above::Several => break,
-        }
+    match climb(&database, kind, base, meter) {
+        Climbed::Found(is) => Ok(is),
+        Climbed::Open(here) => search(alloc, database, here, base, meter),
     }
-    search(alloc, database, here, base, meter)
 }
 
 /// The same by the places of all pairs, and marks of the types that were met.
@@ -82,7 +71,21 @@ fn search<'a>(
     Ok(is)
 }
 
-/// What is one step above a type.
+impl<'a> Hierarchy<'a> for &'a Database {
+    ghost use Rattle.std.specs.Prelude.{◌≡◌};
+    ghost use Rattle.mime_base.specs.Database.{pairs_of, plain_database};
+
+    ghost holds = { λ _. Unit {0} };
+
+    ghost is_of = { λ database pairs. pairs ≡ pairs_of (plain_database database.now) };
+
+    fn above(&self, kind: &[u8]) -> Above<'a> {
+        let database: &'a Database = self;
+        above_among(&database.aliases, &database.parents, kind)
+    }
+}
+
+/// What is one step above a type, by these pairs.
 fn above_among<'a>(aliases: &'a [Pair], parents: &'a [Pair], kind: &[u8]) -> Above<'a>
     ensures { IsAbove (above.above (pairs_at aliases.entry.now parents.entry.now) kind.now) result }
 {

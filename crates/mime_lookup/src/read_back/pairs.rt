@@ -2,29 +2,22 @@
 
 ghost use Rattle.std.specs.Prelude.{◌≡◌, ℕ, List, IfOk};
 ghost use Rattle.mime_base.specs.Cache.Bytes.{Stands, field};
-ghost use Rattle.mime_base.specs.Database.{PlainDatabase, pairs_of};
-ghost use Rattle.mime_base.specs.Database.Subclass.{above, resolved};
+ghost use Rattle.mime_base.specs.Database.Subclass.{resolved};
 ghost use Rattle.mime_base.specs.Format.Header.{HeaderAt, Offsets};
 ghost use Rattle.mime_base.specs.Format.Pairs.{PairsAt};
 ghost use Rattle.mime_load.specs.PairLists.{ArePairLists};
-ghost use Rattle.mime_lookup.specs.PairsReadBack.{IsClimbed};
-ghost use Rattle.mime_lookup.specs.Places.{IsAbove};
-ghost use Rattle.mime_lookup.specs.Spelling.{SpellsPairs};
 ghost use Rattle.mime_view.specs.Pairs.{IsUnaliased};
 
+use crate::climb::Hierarchy;
 use crate::places::Above;
 use crate::read_back::marked::{is_marked, marks_of};
 use crate::read_back::steps::{step_of, steps_of};
 use crate::read_back::targets::{target_of, targets_of};
-use crate::subclass::is_by_itself;
 use indexmap::IndexMap;
-use mime_base::{Counted, Meter, OutOfMemory};
+use mime_base::{Counted, OutOfMemory};
 use mime_load::PairLists;
 use std::alloc::Global;
 use std::marker::Model;
-
-/// How many steps up are made.
-const STEPS: u32 = 16;
 
 /// The aliases and the parents of a cache, prepared once for many types. This project's own.
 #[derive(Drop)]
@@ -39,15 +32,6 @@ pub struct IndexedPairs<'a> {
     children: Vec<bool>,
     /// What is one step above each type that has a parent.
     steps: IndexMap<&'a [u8], Above<'a>>,
-}
-
-/// What a climb from a type to a base finds.
-#[derive(Clone, Copy)]
-pub enum Climbed<'k> {
-    /// Whether the type is the base or a subclass of it.
-    Found(bool),
-    /// It is if this type is, which has several parents, or lies many steps above it.
-    Open(&'k [u8]),
 }
 
 impl<'a> Model for IndexedPairs<'a> {
@@ -105,33 +89,18 @@ impl<'a> IndexedPairs<'a> {
             kind
         }
     }
+}
 
-    /// Climbs from a type towards a base, while each has one parent. It never allocates.
-    pub fn climb<'k>(&self, kind: &'k [u8], base: &[u8]) -> Climbed<'k>
-    where
-        'a: 'k,
-        // Where the pairs of a database stand, it says whether the type is the base or a subclass of it, or that it is if another is.
-        ensures { (b : PlainDatabase) → SpellsPairs self.now b → IsClimbed (pairs_of b) kind.entry.now base.now result }
-    {
-        let mut meter = Meter::new();
-        let mut here = kind;
-        for _ in 0..STEPS {
-            if is_by_itself(here, base, &mut meter) {
-                return Climbed::Found(true);
-            }
-            match self.above(here) {
-                Above::Nothing => return Climbed::Found(false),
-                Above::One(parent) => here = parent,
-                Above::Several => break,
-            }
-        }
-        Climbed::Open(here)
-    }
+impl<'a> Hierarchy<'a> for IndexedPairs<'a> {
+    ghost use Rattle.std.specs.Prelude.{◌≡◌};
+    ghost use Rattle.mime_base.specs.Database.{PlainDatabase, pairs_of};
+    ghost use Rattle.mime_lookup.specs.Spelling.{SpellsPairs};
 
-    /// What is one step above a type.
-    fn above(&self, kind: &[u8]) -> Above<'a>
-        ensures { (b : PlainDatabase) → SpellsPairs self.now b → IsAbove (above (pairs_of b) kind.now) result }
-    {
+    ghost holds = { λ _. Unit {0} };
+
+    ghost is_of = { λ pairs plain. (b : PlainDatabase) × SpellsPairs pairs b × (plain ≡ pairs_of b) };
+
+    fn above(&self, kind: &[u8]) -> Above<'a> {
         if is_marked(&self.children, kind) {
             step_of(&self.steps, kind)
         } else {
