@@ -17,6 +17,7 @@ whole_none : (node : ℕ) (Key Ending : Type 0) → node ≡ 0 → Ending ⊎ (K
 whole_none node Key Ending none (inl ending) = ending
 whole_none node Key Ending none (inr last) = absurd (omega (arith, none, last.1))
 
+-- where the whole has a node, its rules are among the places then
 pub found-gathers : goal.returns-in_ok-push_key-3-clause-gathers
 found-gathers c =
     let tree = c.args.table.now.tree in
@@ -33,6 +34,7 @@ found-gathers c =
     (subst (λ n. GathersPlaces (EndsFrom tree text n) keys c.args.found.now.items c.loop-left.found.items) all before.gathered)
     c.in_ok-push_key-3.ensures.walks
 
+-- and no others are
 pub found-adds : goal.returns-in_ok-push_key-3-clause-adds
 found-adds c =
     let tree = c.args.table.now.tree in
@@ -48,6 +50,7 @@ found-adds c =
     (subst (λ n. AddsPlaces (EndsFrom tree text n) keys c.args.found.now.items c.loop-left.found.items) all before.adds)
     c.push_key-then-whole-gt0.ensures.adds
 
+-- nor where memory runs out on the way
 pub stopped-adds : goal.returns-in_err-push_key-3-clause-adds
 stopped-adds c =
     let tree = c.args.table.now.tree in
@@ -63,6 +66,7 @@ stopped-adds c =
     (subst (λ n. AddsPlaces (EndsFrom tree text n) keys c.args.found.now.items c.loop-left.found.items) all before.adds)
     c.push_key-then-whole-gt0.ensures.adds
 
+-- where it has none, all places are there
 pub none-gathers : goal.returns-else-whole-gt0-clause-gathers
 none-gathers c =
     let tree = c.args.table.now.tree in
@@ -79,6 +83,7 @@ none-gathers c =
     (ends-whole tree text at whole key leads next is))
     (subst (λ n. GathersPlaces (EndsFrom tree text n) keys c.args.found.now.items c.loop-left.found.items) all before.gathered)
 
+-- and no others
 pub none-adds : goal.returns-else-whole-gt0-clause-adds
 none-adds c =
     adds-ends c.args.table.now.tree (spelled c.args.name.now) c.args.table.now.keys.items _ _ c.loop-left.left c.loop-left.invariant.adds
