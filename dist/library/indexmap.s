@@ -301,6 +301,111 @@
 
 	.text
 	.p2align	4
+	.type	"indexmap::map::IndexMap::grow::<#75e4f0f0dae3feaa>",@function
+"indexmap::map::IndexMap::grow::<#75e4f0f0dae3feaa>":
+	pushq	%r15
+	pushq	%r14
+	pushq	%rbx
+	movq	%rdi, %rbx
+	movq	96(%rdi), %r14
+	testq	%r14, %r14
+	jne	1f
+	leaq	48(%rbx), %rdi
+	callq	"indexmap::index_table::IndexTable::reserve_rehash::<#2baac0ee970893ec>"
+	movl	%eax, %ecx
+	movb	$1, %al
+	testb	%cl, %cl
+	jne	2f
+	movq	96(%rbx), %r14
+1:
+	movq	8(%rbx), %rsi
+	movq	16(%rbx), %rcx
+	movq	%rcx, %rax
+	subq	%rsi, %rax
+	cmpq	%rax, %r14
+	jbe	5f
+	movq	%rsi, %r15
+	movb	$1, %al
+	addq	%r14, %r15
+	jb	2f
+	movq	%r15, %rdx
+	shrq	$59, %rdx
+	jne	2f
+	testq	%rcx, %rcx
+	je	3f
+	movq	(%rbx), %rdi
+	shlq	$4, %rsi
+	movq	%r15, %rdx
+	shlq	$4, %rdx
+	movl	$8, %ecx
+	callq	rattle_realloc@PLT
+	testb	$1, %al
+	movb	$1, %al
+	jne	4f
+2:
+	popq	%rbx
+	popq	%r14
+	popq	%r15
+	retq
+3:
+	movq	%r15, %rdi
+	shlq	$4, %rdi
+	movl	$8, %esi
+	callq	rattle_alloc@PLT
+	testb	$1, %al
+	movb	$1, %al
+	je	2b
+4:
+	movq	%rdx, (%rbx)
+	movq	%r15, 16(%rbx)
+5:
+	movq	32(%rbx), %rcx
+	movq	40(%rbx), %rdx
+	movq	%rdx, %rax
+	subq	%rcx, %rax
+	cmpq	%rax, %r14
+	jbe	8f
+	movb	$1, %al
+	addq	%rcx, %r14
+	jb	2b
+	movabsq	$384307168202282325, %rsi
+	cmpq	%rsi, %r14
+	ja	2b
+	testq	%rdx, %rdx
+	je	6f
+	movq	24(%rbx), %rdi
+	shlq	$3, %rcx
+	leaq	(%rcx,%rcx,2), %rsi
+	leaq	(,%r14,8), %rax
+	leaq	(%rax,%rax,2), %rdx
+	movl	$8, %ecx
+	callq	rattle_realloc@PLT
+	testb	$1, %al
+	movb	$1, %al
+	je	2b
+	jmp	7f
+6:
+	leaq	(,%r14,8), %rax
+	leaq	(%rax,%rax,2), %rdi
+	movl	$8, %esi
+	callq	rattle_alloc@PLT
+	testb	$1, %al
+	movb	$1, %al
+	je	2b
+7:
+	movq	%rdx, 24(%rbx)
+	movq	%r14, 40(%rbx)
+8:
+	xorl	%eax, %eax
+	popq	%rbx
+	popq	%r14
+	popq	%r15
+	retq
+9:
+	.size	"indexmap::map::IndexMap::grow::<#75e4f0f0dae3feaa>", 9b-"indexmap::map::IndexMap::grow::<#75e4f0f0dae3feaa>"
+
+	.text
+	.p2align	4
 	.type	"indexmap::map::IndexMap::grow::<#b179f2375b12a751>",@function
 "indexmap::map::IndexMap::grow::<#b179f2375b12a751>":
 	pushq	%r15

@@ -990,7 +990,7 @@
 	subq	$312, %rsp
 	movq	%rcx, %r15
 	movq	%rdx, %r12
-	movq	%rsi, %rbp
+	movq	%rsi, %r13
 	movq	%rdi, %rbx
 	xorps	%xmm0, %xmm0
 	movaps	%xmm0, 144(%rsp)
@@ -1003,15 +1003,15 @@
 	movaps	%xmm0, 224(%rsp)
 	movq	$0, 240(%rsp)
 	leaq	8(%rsp), %r14
-	movq	%r14, 184(%rsp)
-	movups	%xmm0, 192(%rsp)
-	leaq	184(%rsp), %rdi
+	movq	%r14, 192(%rsp)
+	movups	%xmm0, 200(%rsp)
+	leaq	192(%rsp), %rdi
 	callq	"std_alloc::vec::Vec::grow_amortized::<#5eba103c2f25e3e5>"
 	testb	%al, %al
 	jne	4f
-	cmpq	$0, 200(%rsp)
+	cmpq	$0, 208(%rsp)
 	je	2f
-	movq	184(%rsp), %rdi
+	movq	192(%rsp), %rdi
 1:
 	callq	rattle_dealloc@PLT
 2:
@@ -1035,22 +1035,21 @@
 	popq	%rbp
 	retq
 4:
-	movq	%r15, 32(%rsp)
-	movq	184(%rsp), %r13
-	movq	192(%rsp), %rax
-	movq	$0, (%r13,%rax,8)
+	movq	%r12, 32(%rsp)
+	movq	192(%rsp), %rbp
+	movq	200(%rsp), %rax
+	movq	$0, (%rbp,%rax,8)
 	incq	%rax
-	movq	%rax, 192(%rsp)
-	movq	%r14, 160(%rsp)
+	movq	%rax, 200(%rsp)
+	movq	%r14, 168(%rsp)
 	xorps	%xmm0, %xmm0
-	movups	%xmm0, 168(%rsp)
-	leaq	160(%rsp), %rdi
+	movups	%xmm0, 176(%rsp)
+	leaq	168(%rsp), %rdi
 	callq	"std_alloc::vec::Vec::grow_amortized::<#9e03e38e8c3bbb30>"
 	testb	%al, %al
-	je	19f
-	movabsq	$1152921504606846976, %rsi
-	movq	160(%rsp), %rax
-	movq	168(%rsp), %rcx
+	je	18f
+	movq	168(%rsp), %rax
+	movq	176(%rsp), %rcx
 	leaq	64(%rcx), %rdx
 	xorps	%xmm0, %xmm0
 	movups	%xmm0, 240(%rax,%rcx,4)
@@ -1069,15 +1068,15 @@
 	movups	%xmm0, 32(%rax,%rcx,4)
 	movups	%xmm0, 16(%rax,%rcx,4)
 	movups	%xmm0, (%rax,%rcx,4)
-	movq	%rdx, 168(%rsp)
-	movq	200(%rsp), %rax
+	movq	%rdx, 176(%rsp)
+	movq	208(%rsp), %rax
 	movq	%rax, 64(%rsp)
-	movups	184(%rsp), %xmm0
-	movq	160(%rsp), %rax
-	movq	%rax, 72(%rsp)
+	movups	192(%rsp), %xmm0
 	movq	168(%rsp), %rax
-	movq	%rax, 80(%rsp)
+	movq	%rax, 72(%rsp)
 	movq	176(%rsp), %rax
+	movq	%rax, 80(%rsp)
+	movq	184(%rsp), %rax
 	movq	%rax, 88(%rsp)
 	movups	%xmm0, 263(%rsp)
 	movaps	64(%rsp), %xmm1
@@ -1087,34 +1086,35 @@
 	movaps	%xmm2, 144(%rsp)
 	movaps	%xmm1, 128(%rsp)
 	movaps	%xmm0, 112(%rsp)
-	movq	32(%rsp), %r15
 	testq	%r15, %r15
-	je	21f
-	cmpq	%rsi, %r15
-	jae	33f
+	je	20f
+	movq	%r15, %rax
+	shrq	$60, %rax
+	jne	30f
 	leaq	(,%r15,8), %rdi
 	movl	$8, %esi
 	callq	rattle_alloc@PLT
 	testb	$1, %al
-	je	33f
+	je	30f
 	movq	%rdx, 48(%rsp)
 	movq	$0, 56(%rsp)
 	movq	%r15, 64(%rsp)
-	leaq	-1(%rbp), %rax
+	movq	%r13, 248(%rsp)
+	leaq	-1(%r13), %rax
 	movq	%rax, 216(%rsp)
 	xorl	%r13d, %r13d
-	xorl	%ecx, %ecx
-	movq	%r12, 208(%rsp)
-	movq	%rbp, 248(%rsp)
+	xorl	%esi, %esi
 5:
-	leaq	(%rcx,%rcx,4), %rax
-	movq	16(%r12,%rax,8), %r9
-	movq	24(%r12,%rax,8), %rsi
-	movq	%rsi, 16(%rsp)
-	leaq	(%r9,%rbp), %r15
-	movzbl	38(%r12,%rax,8), %eax
+	leaq	(%rsi,%rsi,4), %rax
+	movq	32(%rsp), %rdi
+	movq	16(%rdi,%rax,8), %r9
+	movq	24(%rdi,%rax,8), %rcx
+	movq	%rcx, 16(%rsp)
+	movq	248(%rsp), %rcx
+	leaq	(%rcx,%r9), %r12
+	movzbl	38(%rdi,%rax,8), %eax
 	cmpl	$2, %eax
-	movq	%rcx, 40(%rsp)
+	movq	%rsi, 40(%rsp)
 	je	8f
 	cmpl	$1, %eax
 	movq	%r13, 104(%rsp)
@@ -1125,14 +1125,14 @@
 	testq	%rdi, %rdi
 	setne	%dl
 	subq	%rdx, %rdi
-	addq	%rdx, %r15
+	addq	%rdx, %r12
 	movq	112(%rsp), %rax
 	movq	136(%rsp), %rcx
 	addq	216(%rsp), %r9
 	addq	%rdx, %r9
 	leaq	1(%rdi), %rsi
 	xorl	%r8d, %r8d
-	movq	%rdi, %r12
+	movq	%rdi, 16(%rsp)
 	movq	%rdi, %rdx
 6:
 	movq	%r8, %rbp
@@ -1153,8 +1153,8 @@
 	jne	6b
 7:
 	cmpq	$1, %r13
-	je	15f
-	movzbl	-2(%r15,%r13), %edx
+	je	14f
+	movzbl	-2(%r12,%r13), %edx
 	movl	%edx, %eax
 	andl	$31, %eax
 	shrl	%edx
@@ -1164,25 +1164,23 @@
 	movq	%rbp, %rsi
 	callq	"mime_names::tree::next_node"
 	testb	%al, %al
-	jne	24f
-	testq	%rdx, %rdx
-	je	15f
-	decq	%r13
+	jne	23f
 	movq	%rdx, %rbp
-	cmpq	%r12, %r13
+	decq	%r13
+	cmpq	16(%rsp), %r13
 	jae	7b
-	jmp	15f
+	jmp	14f
 8:
 	movl	$256, %ebp
 	cmpq	$0, 16(%rsp)
-	je	16f
-	movzbl	(%r15), %eax
+	je	15f
+	movzbl	(%r12), %eax
 	leal	-42(%rax), %ecx
 	cmpl	$50, %ecx
 	ja	9f
 	movabsq	$1688849862361089, %rsi
 	btq	%rcx, %rsi
-	jb	16f
+	jb	15f
 9:
 	leal	-65(%rax), %ecx
 	leal	32(%rax), %esi
@@ -1191,7 +1189,7 @@
 	movzbl	%sil, %ecx
 	cmovael	%eax, %ecx
 	movzbl	%cl, %ebp
-	jmp	16f
+	jmp	15f
 10:
 	movq	112(%rsp), %rax
 	movq	136(%rsp), %rcx
@@ -1200,10 +1198,10 @@
 	movq	16(%rsp), %rdx
 11:
 	movq	%rsi, %rbp
-	movq	%rdx, %r12
+	movq	%rdx, %r13
 	subq	$1, %rdx
 	jb	12f
-	movzbl	(%r9,%r12), %esi
+	movzbl	(%r9,%r13), %esi
 	movl	%esi, %edi
 	andl	$31, %edi
 	shrl	%esi
@@ -1214,10 +1212,10 @@
 	testq	%rsi, %rsi
 	jne	11b
 12:
-	testq	%r12, %r12
+	testq	%r13, %r13
 	je	13f
-	movq	%r9, %r15
-	movzbl	(%r9,%r12), %edx
+	movq	%r9, %r12
+	movzbl	(%r9,%r13), %edx
 	movl	%edx, %eax
 	andl	$31, %eax
 	shrl	%edx
@@ -1227,139 +1225,128 @@
 	movq	%rbp, %rsi
 	callq	"mime_names::tree::next_node"
 	testb	%al, %al
-	jne	24f
-	movq	%rdx, %r13
-	testq	%rdx, %rdx
-	je	15f
-	leaq	-1(%r12), %rax
-	incq	%r12
-	movq	%r13, %rbp
-	cmpq	16(%rsp), %r12
-	movq	%rax, %r12
-	movq	%r15, %r9
+	jne	23f
+	movq	%rdx, %rbp
+	leaq	-1(%r13), %rax
+	incq	%r13
+	cmpq	16(%rsp), %r13
+	movq	%rax, %r13
+	movq	%r12, %r9
 	ja	12b
-	movq	%r13, %rbp
 	testq	%rax, %rax
-	jne	15f
-	jmp	14f
+	jne	14f
 13:
-	movq	%rbp, %r13
-14:
 	leaq	112(%rsp), %rdi
-	movq	%r13, %rsi
+	movq	%rbp, %rsi
 	xorl	%edx, %edx
 	callq	"mime_names::tree::next_node"
 	testb	%al, %al
-	jne	24f
-	testq	%rdx, %rdx
-	cmovneq	%rdx, %r13
-	movq	%r13, %rbp
-15:
+	jne	23f
+	movq	%rdx, %rbp
+14:
 	addq	$257, %rbp
 	movq	104(%rsp), %r13
-	movq	208(%rsp), %r12
 	movq	24(%rsp), %rdx
-16:
+15:
 	cmpq	%r13, 64(%rsp)
-	je	18f
-17:
+	je	17f
+16:
 	movq	%rbp, (%rdx,%r13,8)
 	incq	%r13
 	movq	%r13, 56(%rsp)
-	movq	40(%rsp), %rcx
-	incq	%rcx
-	cmpq	32(%rsp), %rcx
-	movq	248(%rsp), %rbp
+	movq	40(%rsp), %rsi
+	incq	%rsi
+	cmpq	%r15, %rsi
 	jne	5b
-	jmp	37f
-18:
+	jmp	38f
+17:
 	leaq	48(%rsp), %rdi
 	callq	"std_alloc::vec::Vec::grow_amortized::<#5eba103c2f25e3e5>"
 	testb	%al, %al
-	je	40f
+	je	39f
 	movq	48(%rsp), %rdx
 	movq	56(%rsp), %r13
-	jmp	17b
-19:
-	cmpq	$0, 176(%rsp)
-	je	20f
-	movq	160(%rsp), %rdi
+	jmp	16b
+18:
+	cmpq	$0, 184(%rsp)
+	je	19f
+	movq	168(%rsp), %rdi
 	callq	rattle_dealloc@PLT
-20:
-	cmpq	$0, 200(%rsp)
+19:
+	cmpq	$0, 208(%rsp)
 	je	2b
-	movq	%r13, %rdi
+	movq	%rbp, %rdi
 	jmp	1b
-21:
+20:
 	xorl	%r15d, %r15d
 	xorl	%r13d, %r13d
 	movq	%r14, %rdi
-22:
+21:
 	movq	120(%rsp), %rax
 	movq	%rax, %rsi
 	xorps	%xmm0, %xmm0
 	movaps	%xmm0, 48(%rsp)
 	movq	$0, 64(%rsp)
 	addq	$257, %rsi
-	je	23f
-	movq	%rax, 32(%rsp)
-	movabsq	$1152921504606846976, %rax
-	cmpq	%rax, %rsi
-	jae	31f
+	je	22f
+	movq	%rax, 16(%rsp)
+	movq	%rsi, %rax
+	shrq	$60, %rax
+	jne	28f
 	leaq	(,%rsi,8), %r12
-	movq	%rsi, 16(%rsp)
+	movq	%rsi, 32(%rsp)
 	movl	$8, %esi
 	movq	%rdi, %rbp
 	movq	%r12, %rdi
 	callq	rattle_alloc@PLT
-	movq	16(%rsp), %rsi
+	movq	32(%rsp), %rsi
 	movq	%rbp, %rdi
 	testb	$1, %al
-	je	31f
+	je	28f
 	movq	%rdx, %r14
 	cmpq	$1, %rsi
-	jne	25f
+	jne	24f
+	xorl	%r12d, %r12d
+	jmp	25f
+22:
+	movq	%r15, 40(%rsp)
 	xorl	%r12d, %r12d
 	jmp	26f
 23:
-	movq	%r15, 40(%rsp)
-	xorl	%r12d, %r12d
-	jmp	27f
-24:
 	cmpq	$0, 64(%rsp)
 	movq	24(%rsp), %rdi
-	jne	32f
-	jmp	33f
-25:
+	jne	29f
+	jmp	30f
+24:
 	addq	$-8, %r12
 	movq	%r14, %rdi
 	xorl	%esi, %esi
 	movq	%r12, %rdx
 	callq	memset@PLT
-	movq	16(%rsp), %rsi
+	movq	32(%rsp), %rsi
 	movq	%rbp, %rdi
-	movq	32(%rsp), %r12
+	movq	16(%rsp), %r12
 	addq	$256, %r12
-26:
+25:
 	movq	%r15, 40(%rsp)
 	movq	$0, (%r14,%r12,8)
 	incq	%r12
-27:
+26:
 	testq	%r13, %r13
-	je	35f
-	movabsq	$1152921504606846976, %rax
-	cmpq	%rax, %r13
-	jae	30f
+	je	32f
+	movq	%r13, %rax
+	shrq	$60, %rax
+	jne	27f
 	movq	%rdi, 24(%rsp)
 	leaq	(,%r13,8), %rdi
-	movq	%rsi, 16(%rsp)
+	movq	%rsi, 32(%rsp)
 	movl	$8, %esi
 	callq	rattle_alloc@PLT
-	movq	16(%rsp), %rsi
+	movq	32(%rsp), %rsi
 	movq	24(%rsp), %rdi
 	testb	$1, %al
-	je	30f
-	movq	%r12, 32(%rsp)
+	je	27f
+	movq	%r12, 16(%rsp)
 	movq	%rdx, 48(%rsp)
 	movq	$0, 56(%rsp)
 	movq	%r13, 64(%rsp)
@@ -1368,62 +1355,38 @@
 	negq	%r12
 	movl	$1, %r13d
 	xorl	%eax, %eax
-	jmp	29f
-28:
-	movq	%rbp, (%rdx,%rax,8)
-	incq	%rax
-	movq	%rax, 56(%rsp)
-	movq	%r13, (%r14,%r15,8)
-	leaq	(%r12,%r13), %rcx
-	incq	%rcx
-	incq	%r13
-	cmpq	$1, %rcx
-	je	36f
-29:
-	movq	-8(%rdi,%r13,8), %r15
-	movq	(%r14,%r15,8), %rbp
-	cmpq	%rax, 64(%rsp)
-	jne	28b
-	leaq	48(%rsp), %rdi
-	callq	"std_alloc::vec::Vec::grow_amortized::<#5eba103c2f25e3e5>"
-	testb	%al, %al
-	je	38f
-	movq	48(%rsp), %rdx
-	movq	56(%rsp), %rax
-	movq	24(%rsp), %rdi
-	movq	16(%rsp), %rsi
-	jmp	28b
-30:
+	jmp	36f
+27:
 	testq	%rsi, %rsi
 	movq	40(%rsp), %r15
-	je	31f
+	je	28f
 	movq	%rdi, %r12
 	movq	%r14, %rdi
 	callq	rattle_dealloc@PLT
 	movq	%r12, %rdi
-31:
+28:
 	testq	%r15, %r15
-	je	33f
-32:
+	je	30f
+29:
 	callq	rattle_dealloc@PLT
-33:
+30:
 	cmpq	$0, 128(%rsp)
-	je	34f
+	je	31f
 	movq	112(%rsp), %rdi
 	callq	rattle_dealloc@PLT
-34:
+31:
 	cmpq	$0, 152(%rsp)
 	je	2b
 	movq	136(%rsp), %rdi
 	jmp	1b
-35:
-	movq	%r12, 32(%rsp)
+32:
+	movq	%r12, 16(%rsp)
 	movq	%r13, 104(%rsp)
 	leaq	8(%rsp), %rax
 	movq	%rax, 48(%rsp)
 	xorps	%xmm0, %xmm0
 	movups	%xmm0, 56(%rsp)
-36:
+33:
 	movq	64(%rsp), %rax
 	movq	%rax, 240(%rsp)
 	movq	48(%rsp), %rax
@@ -1443,7 +1406,7 @@
 	movq	40(%rsp), %rax
 	movq	%rax, 72(%rbx)
 	movq	%r14, 80(%rbx)
-	movq	32(%rsp), %rax
+	movq	16(%rsp), %rax
 	movq	%rax, 88(%rbx)
 	movq	%rsi, 96(%rbx)
 	movq	224(%rsp), %rax
@@ -1453,31 +1416,54 @@
 	movq	240(%rsp), %rax
 	movq	%rax, 120(%rbx)
 	jmp	3b
-37:
-	movq	48(%rsp), %rdi
-	movq	64(%rsp), %r15
-	jmp	22b
-38:
+34:
+	movq	48(%rsp), %rdx
+	movq	56(%rsp), %rax
+	movq	24(%rsp), %rdi
+	movq	32(%rsp), %rsi
+35:
+	movq	%rbp, (%rdx,%rax,8)
+	incq	%rax
+	movq	%rax, 56(%rsp)
+	movq	%r13, (%r14,%r15,8)
+	leaq	(%r12,%r13), %rcx
+	incq	%rcx
+	incq	%r13
+	cmpq	$1, %rcx
+	je	33b
+36:
+	movq	-8(%rdi,%r13,8), %r15
+	movq	(%r14,%r15,8), %rbp
+	cmpq	%rax, 64(%rsp)
+	jne	35b
+	leaq	48(%rsp), %rdi
+	callq	"std_alloc::vec::Vec::grow_amortized::<#5eba103c2f25e3e5>"
+	testb	%al, %al
+	jne	34b
 	cmpq	$0, 64(%rsp)
-	je	39f
+	je	37f
 	movq	48(%rsp), %rdi
 	callq	rattle_dealloc@PLT
-39:
-	cmpq	$0, 16(%rsp)
+37:
+	cmpq	$0, 32(%rsp)
 	movq	40(%rsp), %r15
 	movq	24(%rsp), %rdi
-	je	31b
+	je	28b
 	movq	%r14, %rdi
 	callq	rattle_dealloc@PLT
 	movq	24(%rsp), %rdi
-	jmp	31b
-40:
-	cmpq	$0, 64(%rsp)
-	je	33b
+	jmp	28b
+38:
 	movq	48(%rsp), %rdi
-	jmp	32b
-41:
-	.size	"mime_names::keys::key_table", 41b-"mime_names::keys::key_table"
+	movq	64(%rsp), %r15
+	jmp	21b
+39:
+	cmpq	$0, 64(%rsp)
+	je	30b
+	movq	48(%rsp), %rdi
+	jmp	29b
+40:
+	.size	"mime_names::keys::key_table", 40b-"mime_names::keys::key_table"
 
 	.text
 	.p2align	4
@@ -2050,27 +2036,28 @@
 	pushq	%r13
 	pushq	%r12
 	pushq	%rbx
-	movq	%rdx, %rax
-	movq	(%rdi), %rdx
-	movq	24(%rdi), %rcx
-	movq	(%rdx,%rsi,8), %rbx
-	leaq	(%rbx,%rax), %rdx
-	movl	(%rcx,%rdx,4), %edx
+	movq	%rdx, %rcx
+	movq	(%rdi), %rax
+	movq	24(%rdi), %r8
+	movq	(%rax,%rsi,8), %rbx
+	leaq	(%rbx,%rdx), %rax
+	movl	(%r8,%rax,4), %edx
 	testq	%rdx, %rdx
-	jne	5f
-	movq	8(%rdi), %r8
-	movq	%r8, %r9
-	shrq	$32, %r9
-	movabsq	$4294967296, %rdx
-	cmpq	%rdx, %r8
-	cmovbq	%r8, %rdx
-	testq	%r9, %r9
 	jne	4f
+	movq	8(%rdi), %r9
+	movq	%r9, %r10
+	shrq	$32, %r10
+	movabsq	$4294967296, %rdx
+	cmpq	%rdx, %r9
+	cmovbq	%r9, %rdx
+	movb	$1, %al
+	testq	%r10, %r10
+	jne	6f
 	testq	%rbx, %rbx
 	jne	2f
 	movq	32(%rdi), %rbx
-	movq	40(%rdi), %r8
-	movq	%r8, %r10
+	movq	40(%rdi), %rax
+	movq	%rax, %r10
 	subq	%rbx, %r10
 	movq	%rbx, %r9
 	cmpq	$63, %r10
@@ -2078,66 +2065,66 @@
 1:
 	leaq	64(%r9), %r10
 	xorps	%xmm0, %xmm0
-	movups	%xmm0, 240(%rcx,%r9,4)
-	movups	%xmm0, 224(%rcx,%r9,4)
-	movups	%xmm0, 208(%rcx,%r9,4)
-	movups	%xmm0, 192(%rcx,%r9,4)
-	movups	%xmm0, 176(%rcx,%r9,4)
-	movups	%xmm0, 160(%rcx,%r9,4)
-	movups	%xmm0, 144(%rcx,%r9,4)
-	movups	%xmm0, 128(%rcx,%r9,4)
-	movups	%xmm0, 112(%rcx,%r9,4)
-	movups	%xmm0, 96(%rcx,%r9,4)
-	movups	%xmm0, 80(%rcx,%r9,4)
-	movups	%xmm0, 64(%rcx,%r9,4)
-	movups	%xmm0, 48(%rcx,%r9,4)
-	movups	%xmm0, 32(%rcx,%r9,4)
-	movups	%xmm0, 16(%rcx,%r9,4)
-	movups	%xmm0, (%rcx,%r9,4)
-	movq	%rcx, 24(%rdi)
+	movups	%xmm0, 240(%r8,%r9,4)
+	movups	%xmm0, 224(%r8,%r9,4)
+	movups	%xmm0, 208(%r8,%r9,4)
+	movups	%xmm0, 192(%r8,%r9,4)
+	movups	%xmm0, 176(%r8,%r9,4)
+	movups	%xmm0, 160(%r8,%r9,4)
+	movups	%xmm0, 144(%r8,%r9,4)
+	movups	%xmm0, 128(%r8,%r9,4)
+	movups	%xmm0, 112(%r8,%r9,4)
+	movups	%xmm0, 96(%r8,%r9,4)
+	movups	%xmm0, 80(%r8,%r9,4)
+	movups	%xmm0, 64(%r8,%r9,4)
+	movups	%xmm0, 48(%r8,%r9,4)
+	movups	%xmm0, 32(%r8,%r9,4)
+	movups	%xmm0, 16(%r8,%r9,4)
+	movups	%xmm0, (%r8,%r9,4)
+	movq	%r8, 24(%rdi)
 	movq	%r10, 32(%rdi)
-	movq	%r8, 40(%rdi)
-	movq	(%rdi), %rcx
-	movq	%rbx, (%rcx,%rsi,8)
-	movq	8(%rdi), %r8
+	movq	%rax, 40(%rdi)
+	movq	(%rdi), %rax
+	movq	%rbx, (%rax,%rsi,8)
+	movq	8(%rdi), %r9
 2:
-	cmpq	%r8, 16(%rdi)
+	cmpq	%r9, 16(%rdi)
 	je	7f
 3:
-	movq	(%rdi), %rcx
-	movq	$0, (%rcx,%r8,8)
-	incq	%r8
-	movq	%r8, 8(%rdi)
-	addq	%rax, %rbx
+	movq	(%rdi), %rax
+	movq	$0, (%rax,%r9,8)
+	incq	%r9
+	movq	%r9, 8(%rdi)
+	addq	%rcx, %rbx
 	movq	24(%rdi), %rax
 	movl	%edx, (%rax,%rbx,4)
-	jmp	5f
 4:
-	xorl	%edx, %edx
-5:
 	xorl	%eax, %eax
-6:
+5:
 	popq	%rbx
 	popq	%r12
 	popq	%r13
 	popq	%r14
 	popq	%r15
 	retq
+6:
+	xorl	%edx, %edx
+	jmp	5b
 7:
-	movq	%rax, %r14
+	movq	%rcx, %r14
 	movq	%rdx, %r15
 	movq	%rdi, %r12
 	callq	"std_alloc::vec::Vec::grow_amortized::<#5eba103c2f25e3e5>"
 	testb	%al, %al
 	je	9f
 	movq	%r12, %rdi
-	movq	8(%r12), %r8
+	movq	8(%r12), %r9
 	movq	%r15, %rdx
-	movq	%r14, %rax
+	movq	%r14, %rcx
 	jmp	3b
 8:
 	movq	%rsi, %r14
-	movq	%rax, %r15
+	movq	%rcx, %r15
 	movq	%rdx, %r12
 	movq	%rdi, %r13
 	addq	$24, %rdi
@@ -2145,16 +2132,16 @@
 	testb	%al, %al
 	je	9f
 	movq	%r13, %rdi
-	movq	24(%r13), %rcx
+	movq	24(%r13), %r8
 	movq	32(%r13), %r9
-	movq	40(%r13), %r8
+	movq	40(%r13), %rax
 	movq	%r12, %rdx
-	movq	%r15, %rax
+	movq	%r15, %rcx
 	movq	%r14, %rsi
 	jmp	1b
 9:
-	movb	$1, %al
 	xorl	%edx, %edx
-	jmp	6b
+	movb	$1, %al
+	jmp	5b
 10:
 	.size	"mime_names::tree::next_node", 10b-"mime_names::tree::next_node"

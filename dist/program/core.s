@@ -4568,58 +4568,6 @@
 
 	.text
 	.p2align	4
-	.type	"core::mem::drop::<#8edfd0e00d20d875>",@function
-"core::mem::drop::<#8edfd0e00d20d875>":
-	pushq	%r15
-	pushq	%r14
-	pushq	%r12
-	pushq	%rbx
-	subq	$88, %rsp
-	movq	56(%rdi), %rbx
-	movq	64(%rdi), %r15
-	movq	72(%rdi), %r14
-	testq	%r15, %r15
-	je	2f
-	movq	%rbx, %r12
-	.p2align	4
-1:
-	movups	64(%r12), %xmm0
-	movaps	%xmm0, 64(%rsp)
-	movups	(%r12), %xmm0
-	movups	16(%r12), %xmm1
-	movups	32(%r12), %xmm2
-	movups	48(%r12), %xmm3
-	movaps	%xmm3, 48(%rsp)
-	movaps	%xmm2, 32(%rsp)
-	movaps	%xmm1, 16(%rsp)
-	movaps	%xmm0, (%rsp)
-	movq	%rsp, %rdi
-	callq	"core::mem::drop::<#8edfd0e00d20d875>"
-	addq	$80, %r12
-	decq	%r15
-	jne	1b
-2:
-	testq	%r14, %r14
-	je	3f
-	movq	%rbx, %rdi
-	addq	$88, %rsp
-	popq	%rbx
-	popq	%r12
-	popq	%r14
-	popq	%r15
-	jmp	rattle_dealloc@PLT
-3:
-	addq	$88, %rsp
-	popq	%rbx
-	popq	%r12
-	popq	%r14
-	popq	%r15
-	retq
-4:
-	.size	"core::mem::drop::<#8edfd0e00d20d875>", 4b-"core::mem::drop::<#8edfd0e00d20d875>"
-
-	.text
-	.p2align	4
 	.type	"core::result::ResultFromResidualErrResidual::from_residual::<#5c597c011e3a171b>",@function
 "core::result::ResultFromResidualErrResidual::from_residual::<#5c597c011e3a171b>":
 	pushq	%rbp

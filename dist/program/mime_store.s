@@ -4821,7 +4821,7 @@
 	movq	%rdi, 8(%rsp)
 	movq	%r8, 40(%rsp)
 	leaq	16(%rsp), %rdi
-	callq	"std_alloc::vec::Vec::grow_amortized::<#88a06660b488da62>"
+	callq	"std_alloc::vec::Vec::grow_amortized::<#5cd6c36b4880780f>"
 	testb	%al, %al
 	je	58f
 	movq	24(%rsp), %r10

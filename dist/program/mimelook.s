@@ -677,7 +677,7 @@
 	jne	54b
 	movq	%rsi, 168(%rsp)
 	leaq	1408(%rsp), %rdi
-	callq	"std_alloc::vec::Vec::grow_amortized::<#88a06660b488da62>"
+	callq	"std_alloc::vec::Vec::grow_amortized::<#5cd6c36b4880780f>"
 	testb	%al, %al
 	jne	53b
 	cmpq	$0, 1424(%rsp)

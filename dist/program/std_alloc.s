@@ -26,6 +26,120 @@
 
 	.text
 	.p2align	4
+	.type	"std_alloc::boxed::Box::drop::<#2a53b42b743d619c>",@function
+"std_alloc::boxed::Box::drop::<#2a53b42b743d619c>":
+	pushq	%rbp
+	pushq	%r15
+	pushq	%r14
+	pushq	%r13
+	pushq	%r12
+	pushq	%rbx
+	subq	$120, %rsp
+	movq	16(%rdi), %r12
+	movq	40(%rdi), %r15
+	movq	56(%rdi), %r13
+	movq	64(%rdi), %rax
+	movq	%rax, 8(%rsp)
+	movq	80(%rdi), %r14
+	movq	88(%rdi), %rax
+	movq	%rax, 16(%rsp)
+	movq	104(%rdi), %rbp
+	movq	112(%rdi), %rax
+	movq	%rax, 24(%rsp)
+	movq	128(%rdi), %rax
+	movq	%rax, 72(%rsp)
+	movq	152(%rdi), %rax
+	movq	%rax, 32(%rsp)
+	movq	168(%rdi), %rax
+	movq	%rax, 80(%rsp)
+	movq	176(%rdi), %rax
+	movq	%rax, 40(%rsp)
+	movq	192(%rdi), %rax
+	movq	%rax, 88(%rsp)
+	movq	200(%rdi), %rax
+	movq	%rax, 48(%rsp)
+	movq	216(%rdi), %rax
+	movq	%rax, 96(%rsp)
+	movq	224(%rdi), %rax
+	movq	%rax, 56(%rsp)
+	movq	240(%rdi), %rax
+	movq	%rax, 104(%rsp)
+	movq	248(%rdi), %rax
+	movq	%rax, 64(%rsp)
+	movq	264(%rdi), %rax
+	movq	%rax, 112(%rsp)
+	movq	32(%rdi), %rbx
+	callq	rattle_dealloc@PLT
+	testq	%rbx, %rbx
+	je	1f
+	movq	%r12, %rdi
+	callq	rattle_dealloc@PLT
+1:
+	testq	%r13, %r13
+	je	2f
+	movq	%r15, %rdi
+	callq	rattle_dealloc@PLT
+2:
+	testq	%r14, %r14
+	je	3f
+	movq	8(%rsp), %rdi
+	callq	rattle_dealloc@PLT
+3:
+	testq	%rbp, %rbp
+	je	4f
+	movq	16(%rsp), %rdi
+	callq	rattle_dealloc@PLT
+4:
+	cmpq	$0, 72(%rsp)
+	je	5f
+	movq	24(%rsp), %rdi
+	callq	rattle_dealloc@PLT
+5:
+	cmpq	$0, 80(%rsp)
+	je	6f
+	movq	32(%rsp), %rdi
+	callq	rattle_dealloc@PLT
+6:
+	cmpq	$0, 88(%rsp)
+	je	7f
+	movq	40(%rsp), %rdi
+	callq	rattle_dealloc@PLT
+7:
+	cmpq	$0, 96(%rsp)
+	je	8f
+	movq	48(%rsp), %rdi
+	callq	rattle_dealloc@PLT
+8:
+	cmpq	$0, 104(%rsp)
+	je	9f
+	movq	56(%rsp), %rdi
+	callq	rattle_dealloc@PLT
+9:
+	cmpq	$0, 112(%rsp)
+	je	10f
+	movq	64(%rsp), %rdi
+	addq	$120, %rsp
+	popq	%rbx
+	popq	%r12
+	popq	%r13
+	popq	%r14
+	popq	%r15
+	popq	%rbp
+	jmp	rattle_dealloc@PLT
+10:
+	addq	$120, %rsp
+	popq	%rbx
+	popq	%r12
+	popq	%r13
+	popq	%r14
+	popq	%r15
+	popq	%rbp
+	retq
+11:
+	.size	"std_alloc::boxed::Box::drop::<#2a53b42b743d619c>", 11b-"std_alloc::boxed::Box::drop::<#2a53b42b743d619c>"
+
+	.text
+	.p2align	4
 	.type	"std_alloc::boxed::Box::drop::<#d2a52521aa2f4aea>",@function
 "std_alloc::boxed::Box::drop::<#d2a52521aa2f4aea>":
 	pushq	%rbp
@@ -104,101 +218,64 @@
 	pushq	%r13
 	pushq	%r12
 	pushq	%rbx
-	subq	$168, %rsp
-	movq	(%rdi), %rbp
-	movq	24(%rdi), %r13
-	movq	32(%rdi), %rax
-	movq	%rax, (%rsp)
-	movq	40(%rdi), %rax
-	movq	%rax, 40(%rsp)
+	subq	$72, %rsp
+	movq	(%rdi), %rbx
+	movq	24(%rdi), %rbp
+	movq	40(%rdi), %r13
 	movq	48(%rdi), %rax
 	movq	%rax, 8(%rsp)
-	movq	64(%rdi), %rax
-	movq	%rax, 48(%rsp)
+	movq	64(%rdi), %r15
 	movq	72(%rdi), %rax
 	movq	%rax, 16(%rsp)
-	movq	88(%rdi), %rax
-	movq	%rax, 56(%rsp)
+	movq	88(%rdi), %r14
 	movq	96(%rdi), %rax
 	movq	%rax, 24(%rsp)
 	movq	112(%rdi), %rax
-	movq	%rax, 64(%rsp)
+	movq	%rax, 48(%rsp)
 	movq	120(%rdi), %rax
 	movq	%rax, 32(%rsp)
 	movq	136(%rdi), %rax
-	movq	%rax, 72(%rsp)
-	movq	16(%rdi), %rbx
+	movq	%rax, 56(%rsp)
+	movq	144(%rdi), %rax
+	movq	%rax, 40(%rsp)
+	movq	160(%rdi), %rax
+	movq	%rax, 64(%rsp)
+	movq	16(%rdi), %r12
 	callq	rattle_dealloc@PLT
-	testq	%rbx, %rbx
+	testq	%r12, %r12
 	je	1f
-	movq	%rbp, %rdi
+	movq	%rbx, %rdi
 	callq	rattle_dealloc@PLT
 1:
-	cmpq	$0, (%rsp)
-	je	6f
-	xorl	%r15d, %r15d
-	jmp	3f
-	.p2align	4
+	testq	%r13, %r13
+	je	2f
+	movq	%rbp, %rdi
+	callq	rattle_dealloc@PLT
 2:
-	incq	%r15
-	cmpq	(%rsp), %r15
-	je	6f
-3:
-	imulq	$104, %r15, %rax
-	movq	80(%r13,%rax), %r14
-	movq	88(%r13,%rax), %rbx
-	movq	96(%r13,%rax), %r12
-	testq	%rbx, %rbx
-	je	5f
-	movq	%r14, %rbp
-	.p2align	4
-4:
-	movups	64(%rbp), %xmm0
-	movaps	%xmm0, 144(%rsp)
-	movups	(%rbp), %xmm0
-	movups	16(%rbp), %xmm1
-	movups	32(%rbp), %xmm2
-	movups	48(%rbp), %xmm3
-	movaps	%xmm3, 128(%rsp)
-	movaps	%xmm2, 112(%rsp)
-	movaps	%xmm1, 96(%rsp)
-	movaps	%xmm0, 80(%rsp)
-	leaq	80(%rsp), %rdi
-	callq	"core::mem::drop::<#8edfd0e00d20d875>"
-	addq	$80, %rbp
-	decq	%rbx
-	jne	4b
-5:
-	testq	%r12, %r12
-	je	2b
-	movq	%r14, %rdi
-	callq	rattle_dealloc@PLT
-	jmp	2b
-6:
-	cmpq	$0, 40(%rsp)
-	je	7f
-	movq	%r13, %rdi
-	callq	rattle_dealloc@PLT
-7:
-	cmpq	$0, 48(%rsp)
-	je	8f
+	testq	%r15, %r15
+	je	3f
 	movq	8(%rsp), %rdi
 	callq	rattle_dealloc@PLT
-8:
-	cmpq	$0, 56(%rsp)
-	je	9f
+3:
+	testq	%r14, %r14
+	je	4f
 	movq	16(%rsp), %rdi
 	callq	rattle_dealloc@PLT
-9:
-	cmpq	$0, 64(%rsp)
-	je	10f
+4:
+	cmpq	$0, 48(%rsp)
+	je	5f
 	movq	24(%rsp), %rdi
 	callq	rattle_dealloc@PLT
-10:
-	cmpq	$0, 72(%rsp)
-	je	11f
+5:
+	cmpq	$0, 56(%rsp)
+	je	6f
 	movq	32(%rsp), %rdi
-	addq	$168, %rsp
+	callq	rattle_dealloc@PLT
+6:
+	cmpq	$0, 64(%rsp)
+	je	7f
+	movq	40(%rsp), %rdi
+	addq	$72, %rsp
 	popq	%rbx
 	popq	%r12
 	popq	%r13
@@ -206,8 +283,8 @@
 	popq	%r15
 	popq	%rbp
 	jmp	rattle_dealloc@PLT
-11:
-	addq	$168, %rsp
+7:
+	addq	$72, %rsp
 	popq	%rbx
 	popq	%r12
 	popq	%r13
@@ -215,8 +292,8 @@
 	popq	%r15
 	popq	%rbp
 	retq
-12:
-	.size	"std_alloc::boxed::Box::drop::<#e973df45dd2be47d>", 12b-"std_alloc::boxed::Box::drop::<#e973df45dd2be47d>"
+8:
+	.size	"std_alloc::boxed::Box::drop::<#e973df45dd2be47d>", 8b-"std_alloc::boxed::Box::drop::<#e973df45dd2be47d>"
 
 	.text
 	.p2align	4
@@ -8861,88 +8938,6 @@
 
 	.text
 	.p2align	4
-	.type	"std_alloc::vec::Vec::drop::<#546c460b352be901>",@function
-"std_alloc::vec::Vec::drop::<#546c460b352be901>":
-	pushq	%rbp
-	pushq	%r15
-	pushq	%r14
-	pushq	%r13
-	pushq	%r12
-	pushq	%rbx
-	subq	$104, %rsp
-	movq	(%rdi), %rbx
-	movq	8(%rdi), %rcx
-	movq	16(%rdi), %rax
-	movq	%rax, (%rsp)
-	movq	%rcx, 8(%rsp)
-	testq	%rcx, %rcx
-	je	5f
-	xorl	%r13d, %r13d
-	jmp	2f
-	.p2align	4
-1:
-	incq	%r13
-	cmpq	8(%rsp), %r13
-	je	5f
-2:
-	leaq	(,%r13,2), %rax
-	addq	%r13, %rax
-	shlq	$4, %rax
-	movq	24(%rbx,%rax), %r12
-	movq	32(%rbx,%rax), %r15
-	movq	40(%rbx,%rax), %rbp
-	testq	%r15, %r15
-	je	4f
-	movq	%r12, %r14
-	.p2align	4
-3:
-	movups	64(%r14), %xmm0
-	movaps	%xmm0, 80(%rsp)
-	movups	(%r14), %xmm0
-	movups	16(%r14), %xmm1
-	movups	32(%r14), %xmm2
-	movups	48(%r14), %xmm3
-	movaps	%xmm3, 64(%rsp)
-	movaps	%xmm2, 48(%rsp)
-	movaps	%xmm1, 32(%rsp)
-	movaps	%xmm0, 16(%rsp)
-	leaq	16(%rsp), %rdi
-	callq	"mime_load::mime_load++line++LentLine+Destruct::drop"
-	addq	$80, %r14
-	decq	%r15
-	jne	3b
-4:
-	testq	%rbp, %rbp
-	je	1b
-	movq	%r12, %rdi
-	callq	rattle_dealloc@PLT
-	jmp	1b
-5:
-	cmpq	$0, (%rsp)
-	je	6f
-	movq	%rbx, %rdi
-	addq	$104, %rsp
-	popq	%rbx
-	popq	%r12
-	popq	%r13
-	popq	%r14
-	popq	%r15
-	popq	%rbp
-	jmp	rattle_dealloc@PLT
-6:
-	addq	$104, %rsp
-	popq	%rbx
-	popq	%r12
-	popq	%r13
-	popq	%r14
-	popq	%r15
-	popq	%rbp
-	retq
-7:
-	.size	"std_alloc::vec::Vec::drop::<#546c460b352be901>", 7b-"std_alloc::vec::Vec::drop::<#546c460b352be901>"
-
-	.text
-	.p2align	4
 	.type	"std_alloc::vec::Vec::drop::<#6d65fad926a67069>",@function
 "std_alloc::vec::Vec::drop::<#6d65fad926a67069>":
 	pushq	%rbp
@@ -9747,6 +9742,70 @@
 
 	.section	.text.unlikely,"ax",@progbits
 	.p2align	4
+	.type	"std_alloc::vec::Vec::grow_amortized::<#1a30988f8987f99f>",@function
+"std_alloc::vec::Vec::grow_amortized::<#1a30988f8987f99f>":
+	movq	8(%rdi), %rsi
+	cmpq	$-1, %rsi
+	je	2f
+	pushq	%r14
+	pushq	%rbx
+	pushq	%rax
+	movq	16(%rdi), %rcx
+	cmpq	$4, %rsi
+	movl	$3, %ebx
+	cmovaeq	%rsi, %rbx
+	incq	%rbx
+	movq	%rcx, %rdx
+	shrq	$62, %rdx
+	leaq	(%rcx,%rcx), %rax
+	cmpq	%rax, %rbx
+	cmovaq	%rbx, %rax
+	testq	%rdx, %rdx
+	cmoveq	%rax, %rbx
+	movq	%rbx, %rdx
+	shrq	$57, %rdx
+	jne	4f
+	testq	%rcx, %rcx
+	je	3f
+	movq	%rdi, %r14
+	movq	(%rdi), %rdi
+	shlq	$6, %rsi
+	movq	%rbx, %rdx
+	shlq	$6, %rdx
+	movl	$8, %ecx
+	callq	rattle_realloc@PLT
+	testb	$1, %al
+	je	4f
+1:
+	movq	%rdx, (%r14)
+	movq	%rbx, 16(%r14)
+	movb	$1, %al
+	addq	$8, %rsp
+	popq	%rbx
+	popq	%r14
+	retq
+2:
+	xorl	%eax, %eax
+	retq
+3:
+	movq	%rdi, %r14
+	shlq	$6, %rax
+	movl	$8, %esi
+	movq	%rax, %rdi
+	callq	rattle_alloc@PLT
+	testb	$1, %al
+	jne	1b
+4:
+	xorl	%eax, %eax
+	addq	$8, %rsp
+	popq	%rbx
+	popq	%r14
+	retq
+5:
+	.size	"std_alloc::vec::Vec::grow_amortized::<#1a30988f8987f99f>", 5b-"std_alloc::vec::Vec::grow_amortized::<#1a30988f8987f99f>"
+
+	.section	.text.unlikely,"ax",@progbits
+	.p2align	4
 	.type	"std_alloc::vec::Vec::grow_amortized::<#1d775b5957dec42c>",@function
 "std_alloc::vec::Vec::grow_amortized::<#1d775b5957dec42c>":
 	movq	%rsi, %rax
@@ -9804,68 +9863,6 @@
 	retq
 5:
 	.size	"std_alloc::vec::Vec::grow_amortized::<#1d775b5957dec42c>", 5b-"std_alloc::vec::Vec::grow_amortized::<#1d775b5957dec42c>"
-
-	.section	.text.unlikely,"ax",@progbits
-	.p2align	4
-	.type	"std_alloc::vec::Vec::grow_amortized::<#230f5252f647e2c2>",@function
-"std_alloc::vec::Vec::grow_amortized::<#230f5252f647e2c2>":
-	movq	8(%rdi), %rax
-	cmpq	$-1, %rax
-	je	2f
-	pushq	%r14
-	pushq	%rbx
-	pushq	%rax
-	movq	16(%rdi), %rcx
-	cmpq	$4, %rax
-	movl	$3, %ebx
-	cmovaeq	%rax, %rbx
-	incq	%rbx
-	movq	%rcx, %rsi
-	shrq	$62, %rsi
-	leaq	(%rcx,%rcx), %rdx
-	cmpq	%rdx, %rbx
-	cmovaq	%rbx, %rdx
-	testq	%rsi, %rsi
-	cmoveq	%rdx, %rbx
-	movabsq	$88686269585142075, %rsi
-	cmpq	%rsi, %rbx
-	ja	4f
-	testq	%rcx, %rcx
-	je	3f
-	movq	%rdi, %r14
-	movq	(%rdi), %rdi
-	imulq	$104, %rax, %rsi
-	imulq	$104, %rbx, %rdx
-	movl	$8, %ecx
-	callq	rattle_realloc@PLT
-	testb	$1, %al
-	je	4f
-1:
-	movq	%rdx, (%r14)
-	movq	%rbx, 16(%r14)
-	movb	$1, %al
-	addq	$8, %rsp
-	popq	%rbx
-	popq	%r14
-	retq
-2:
-	xorl	%eax, %eax
-	retq
-3:
-	movq	%rdi, %r14
-	imulq	$104, %rdx, %rdi
-	movl	$8, %esi
-	callq	rattle_alloc@PLT
-	testb	$1, %al
-	jne	1b
-4:
-	xorl	%eax, %eax
-	addq	$8, %rsp
-	popq	%rbx
-	popq	%r14
-	retq
-5:
-	.size	"std_alloc::vec::Vec::grow_amortized::<#230f5252f647e2c2>", 5b-"std_alloc::vec::Vec::grow_amortized::<#230f5252f647e2c2>"
 
 	.section	.text.unlikely,"ax",@progbits
 	.p2align	4
@@ -10570,6 +10567,71 @@
 
 	.section	.text.unlikely,"ax",@progbits
 	.p2align	4
+	.type	"std_alloc::vec::Vec::grow_amortized::<#5cd6c36b4880780f>",@function
+"std_alloc::vec::Vec::grow_amortized::<#5cd6c36b4880780f>":
+	movq	8(%rdi), %rax
+	cmpq	$-1, %rax
+	je	2f
+	pushq	%r14
+	pushq	%rbx
+	pushq	%rax
+	movq	16(%rdi), %rcx
+	cmpq	$4, %rax
+	movl	$3, %ebx
+	cmovaeq	%rax, %rbx
+	incq	%rbx
+	movq	%rcx, %rsi
+	shrq	$62, %rsi
+	leaq	(%rcx,%rcx), %rdx
+	cmpq	%rdx, %rbx
+	cmovaq	%rbx, %rdx
+	testq	%rsi, %rsi
+	cmoveq	%rdx, %rbx
+	movabsq	$230584300921369395, %rsi
+	cmpq	%rsi, %rbx
+	ja	4f
+	testq	%rcx, %rcx
+	je	3f
+	movq	%rdi, %r14
+	movq	(%rdi), %rdi
+	shlq	$3, %rax
+	leaq	(%rax,%rax,4), %rsi
+	leaq	(,%rbx,8), %rax
+	leaq	(%rax,%rax,4), %rdx
+	movl	$8, %ecx
+	callq	rattle_realloc@PLT
+	testb	$1, %al
+	je	4f
+1:
+	movq	%rdx, (%r14)
+	movq	%rbx, 16(%r14)
+	movb	$1, %al
+	addq	$8, %rsp
+	popq	%rbx
+	popq	%r14
+	retq
+2:
+	xorl	%eax, %eax
+	retq
+3:
+	movq	%rdi, %r14
+	shlq	$3, %rdx
+	leaq	(%rdx,%rdx,4), %rdi
+	movl	$8, %esi
+	callq	rattle_alloc@PLT
+	testb	$1, %al
+	jne	1b
+4:
+	xorl	%eax, %eax
+	addq	$8, %rsp
+	popq	%rbx
+	popq	%r14
+	retq
+5:
+	.size	"std_alloc::vec::Vec::grow_amortized::<#5cd6c36b4880780f>", 5b-"std_alloc::vec::Vec::grow_amortized::<#5cd6c36b4880780f>"
+
+	.section	.text.unlikely,"ax",@progbits
+	.p2align	4
 	.type	"std_alloc::vec::Vec::grow_amortized::<#621ce3d0792088ae>",@function
 "std_alloc::vec::Vec::grow_amortized::<#621ce3d0792088ae>":
 	movq	%rsi, %rax
@@ -10824,71 +10886,6 @@
 
 	.section	.text.unlikely,"ax",@progbits
 	.p2align	4
-	.type	"std_alloc::vec::Vec::grow_amortized::<#88a06660b488da62>",@function
-"std_alloc::vec::Vec::grow_amortized::<#88a06660b488da62>":
-	movq	8(%rdi), %rax
-	cmpq	$-1, %rax
-	je	2f
-	pushq	%r14
-	pushq	%rbx
-	pushq	%rax
-	movq	16(%rdi), %rcx
-	cmpq	$4, %rax
-	movl	$3, %ebx
-	cmovaeq	%rax, %rbx
-	incq	%rbx
-	movq	%rcx, %rsi
-	shrq	$62, %rsi
-	leaq	(%rcx,%rcx), %rdx
-	cmpq	%rdx, %rbx
-	cmovaq	%rbx, %rdx
-	testq	%rsi, %rsi
-	cmoveq	%rdx, %rbx
-	movabsq	$230584300921369395, %rsi
-	cmpq	%rsi, %rbx
-	ja	4f
-	testq	%rcx, %rcx
-	je	3f
-	movq	%rdi, %r14
-	movq	(%rdi), %rdi
-	shlq	$3, %rax
-	leaq	(%rax,%rax,4), %rsi
-	leaq	(,%rbx,8), %rax
-	leaq	(%rax,%rax,4), %rdx
-	movl	$8, %ecx
-	callq	rattle_realloc@PLT
-	testb	$1, %al
-	je	4f
-1:
-	movq	%rdx, (%r14)
-	movq	%rbx, 16(%r14)
-	movb	$1, %al
-	addq	$8, %rsp
-	popq	%rbx
-	popq	%r14
-	retq
-2:
-	xorl	%eax, %eax
-	retq
-3:
-	movq	%rdi, %r14
-	shlq	$3, %rdx
-	leaq	(%rdx,%rdx,4), %rdi
-	movl	$8, %esi
-	callq	rattle_alloc@PLT
-	testb	$1, %al
-	jne	1b
-4:
-	xorl	%eax, %eax
-	addq	$8, %rsp
-	popq	%rbx
-	popq	%r14
-	retq
-5:
-	.size	"std_alloc::vec::Vec::grow_amortized::<#88a06660b488da62>", 5b-"std_alloc::vec::Vec::grow_amortized::<#88a06660b488da62>"
-
-	.section	.text.unlikely,"ax",@progbits
-	.p2align	4
 	.type	"std_alloc::vec::Vec::grow_amortized::<#96976065f969f57f>",@function
 "std_alloc::vec::Vec::grow_amortized::<#96976065f969f57f>":
 	movq	8(%rdi), %rax
@@ -11075,70 +11072,6 @@
 	retq
 5:
 	.size	"std_alloc::vec::Vec::grow_amortized::<#97494d03d8baf6d3>", 5b-"std_alloc::vec::Vec::grow_amortized::<#97494d03d8baf6d3>"
-
-	.section	.text.unlikely,"ax",@progbits
-	.p2align	4
-	.type	"std_alloc::vec::Vec::grow_amortized::<#995814d9170a922c>",@function
-"std_alloc::vec::Vec::grow_amortized::<#995814d9170a922c>":
-	movq	8(%rdi), %rsi
-	cmpq	$-1, %rsi
-	je	2f
-	pushq	%r14
-	pushq	%rbx
-	pushq	%rax
-	movq	16(%rdi), %rcx
-	cmpq	$4, %rsi
-	movl	$3, %ebx
-	cmovaeq	%rsi, %rbx
-	incq	%rbx
-	movq	%rcx, %rdx
-	shrq	$62, %rdx
-	leaq	(%rcx,%rcx), %rax
-	cmpq	%rax, %rbx
-	cmovaq	%rbx, %rax
-	testq	%rdx, %rdx
-	cmoveq	%rax, %rbx
-	movq	%rbx, %rdx
-	shrq	$57, %rdx
-	jne	4f
-	testq	%rcx, %rcx
-	je	3f
-	movq	%rdi, %r14
-	movq	(%rdi), %rdi
-	shlq	$6, %rsi
-	movq	%rbx, %rdx
-	shlq	$6, %rdx
-	movl	$8, %ecx
-	callq	rattle_realloc@PLT
-	testb	$1, %al
-	je	4f
-1:
-	movq	%rdx, (%r14)
-	movq	%rbx, 16(%r14)
-	movb	$1, %al
-	addq	$8, %rsp
-	popq	%rbx
-	popq	%r14
-	retq
-2:
-	xorl	%eax, %eax
-	retq
-3:
-	movq	%rdi, %r14
-	shlq	$6, %rax
-	movl	$8, %esi
-	movq	%rax, %rdi
-	callq	rattle_alloc@PLT
-	testb	$1, %al
-	jne	1b
-4:
-	xorl	%eax, %eax
-	addq	$8, %rsp
-	popq	%rbx
-	popq	%r14
-	retq
-5:
-	.size	"std_alloc::vec::Vec::grow_amortized::<#995814d9170a922c>", 5b-"std_alloc::vec::Vec::grow_amortized::<#995814d9170a922c>"
 
 	.section	.text.unlikely,"ax",@progbits
 	.p2align	4
@@ -11522,6 +11455,68 @@
 	retq
 5:
 	.size	"std_alloc::vec::Vec::grow_amortized::<#af4d00d87a514b9c>", 5b-"std_alloc::vec::Vec::grow_amortized::<#af4d00d87a514b9c>"
+
+	.section	.text.unlikely,"ax",@progbits
+	.p2align	4
+	.type	"std_alloc::vec::Vec::grow_amortized::<#b0aa9f4bede84b75>",@function
+"std_alloc::vec::Vec::grow_amortized::<#b0aa9f4bede84b75>":
+	movq	8(%rdi), %rax
+	cmpq	$-1, %rax
+	je	2f
+	pushq	%r14
+	pushq	%rbx
+	pushq	%rax
+	movq	16(%rdi), %rcx
+	cmpq	$4, %rax
+	movl	$3, %ebx
+	cmovaeq	%rax, %rbx
+	incq	%rbx
+	movq	%rcx, %rsi
+	shrq	$62, %rsi
+	leaq	(%rcx,%rcx), %rdx
+	cmpq	%rdx, %rbx
+	cmovaq	%rbx, %rdx
+	testq	%rsi, %rsi
+	cmoveq	%rdx, %rbx
+	movabsq	$88686269585142075, %rsi
+	cmpq	%rsi, %rbx
+	ja	4f
+	testq	%rcx, %rcx
+	je	3f
+	movq	%rdi, %r14
+	movq	(%rdi), %rdi
+	imulq	$104, %rax, %rsi
+	imulq	$104, %rbx, %rdx
+	movl	$8, %ecx
+	callq	rattle_realloc@PLT
+	testb	$1, %al
+	je	4f
+1:
+	movq	%rdx, (%r14)
+	movq	%rbx, 16(%r14)
+	movb	$1, %al
+	addq	$8, %rsp
+	popq	%rbx
+	popq	%r14
+	retq
+2:
+	xorl	%eax, %eax
+	retq
+3:
+	movq	%rdi, %r14
+	imulq	$104, %rdx, %rdi
+	movl	$8, %esi
+	callq	rattle_alloc@PLT
+	testb	$1, %al
+	jne	1b
+4:
+	xorl	%eax, %eax
+	addq	$8, %rsp
+	popq	%rbx
+	popq	%r14
+	retq
+5:
+	.size	"std_alloc::vec::Vec::grow_amortized::<#b0aa9f4bede84b75>", 5b-"std_alloc::vec::Vec::grow_amortized::<#b0aa9f4bede84b75>"
 
 	.section	.text.unlikely,"ax",@progbits
 	.p2align	4
@@ -14019,138 +14014,6 @@
 	retq
 15:
 	.size	"std_alloc::vec::deque::VecDeque::drop::<#a85d6931f7cfb01d>", 15b-"std_alloc::vec::deque::VecDeque::drop::<#a85d6931f7cfb01d>"
-
-	.text
-	.p2align	4
-	.type	"std_alloc::vec::deque::VecDeque::drop::<#f16e61ea0b3c4f72>",@function
-"std_alloc::vec::deque::VecDeque::drop::<#f16e61ea0b3c4f72>":
-	pushq	%rbp
-	pushq	%r15
-	pushq	%r14
-	pushq	%r13
-	pushq	%r12
-	pushq	%rbx
-	subq	$120, %rsp
-	movq	(%rdi), %rbx
-	movq	8(%rdi), %r14
-	movq	16(%rdi), %rax
-	movq	%rax, 16(%rsp)
-	testq	%r14, %r14
-	je	10f
-	movq	32(%rdi), %rax
-	movq	24(%rdi), %rbp
-	movq	%rax, 8(%rsp)
-	subq	%rax, %r14
-	addq	%rbp, %r14
-	cmpq	%r14, %rbp
-	jae	5f
-	movq	%r14, 24(%rsp)
-	jmp	2f
-	.p2align	4
-1:
-	incq	%rbp
-	cmpq	%r14, %rbp
-	je	5f
-2:
-	leaq	(,%rbp,2), %rax
-	addq	%rbp, %rax
-	shlq	$4, %rax
-	movq	24(%rbx,%rax), %r13
-	movq	32(%rbx,%rax), %r12
-	movq	40(%rbx,%rax), %r15
-	testq	%r12, %r12
-	je	4f
-	movq	%r13, %r14
-	.p2align	4
-3:
-	movups	64(%r14), %xmm0
-	movaps	%xmm0, 96(%rsp)
-	movups	(%r14), %xmm0
-	movups	16(%r14), %xmm1
-	movups	32(%r14), %xmm2
-	movups	48(%r14), %xmm3
-	movaps	%xmm3, 80(%rsp)
-	movaps	%xmm2, 64(%rsp)
-	movaps	%xmm1, 48(%rsp)
-	movaps	%xmm0, 32(%rsp)
-	leaq	32(%rsp), %rdi
-	callq	"core::mem::drop::<#8edfd0e00d20d875>"
-	addq	$80, %r14
-	decq	%r12
-	jne	3b
-	movq	24(%rsp), %r14
-4:
-	testq	%r15, %r15
-	je	1b
-	movq	%r13, %rdi
-	callq	rattle_dealloc@PLT
-	jmp	1b
-5:
-	cmpq	$0, 8(%rsp)
-	je	10f
-	xorl	%r13d, %r13d
-	jmp	7f
-	.p2align	4
-6:
-	incq	%r13
-	cmpq	8(%rsp), %r13
-	je	10f
-7:
-	leaq	(,%r13,2), %rax
-	addq	%r13, %rax
-	shlq	$4, %rax
-	movq	24(%rbx,%rax), %r14
-	movq	32(%rbx,%rax), %r12
-	movq	40(%rbx,%rax), %r15
-	testq	%r12, %r12
-	je	9f
-	movq	%r14, %rbp
-	.p2align	4
-8:
-	movups	64(%rbp), %xmm0
-	movaps	%xmm0, 96(%rsp)
-	movups	(%rbp), %xmm0
-	movups	16(%rbp), %xmm1
-	movups	32(%rbp), %xmm2
-	movups	48(%rbp), %xmm3
-	movaps	%xmm3, 80(%rsp)
-	movaps	%xmm2, 64(%rsp)
-	movaps	%xmm1, 48(%rsp)
-	movaps	%xmm0, 32(%rsp)
-	leaq	32(%rsp), %rdi
-	callq	"core::mem::drop::<#8edfd0e00d20d875>"
-	addq	$80, %rbp
-	decq	%r12
-	jne	8b
-9:
-	testq	%r15, %r15
-	je	6b
-	movq	%r14, %rdi
-	callq	rattle_dealloc@PLT
-	jmp	6b
-10:
-	cmpq	$0, 16(%rsp)
-	je	11f
-	movq	%rbx, %rdi
-	addq	$120, %rsp
-	popq	%rbx
-	popq	%r12
-	popq	%r13
-	popq	%r14
-	popq	%r15
-	popq	%rbp
-	jmp	rattle_dealloc@PLT
-11:
-	addq	$120, %rsp
-	popq	%rbx
-	popq	%r12
-	popq	%r13
-	popq	%r14
-	popq	%r15
-	popq	%rbp
-	retq
-12:
-	.size	"std_alloc::vec::deque::VecDeque::drop::<#f16e61ea0b3c4f72>", 12b-"std_alloc::vec::deque::VecDeque::drop::<#f16e61ea0b3c4f72>"
 
 	.text
 	.p2align	4
