@@ -2,12 +2,14 @@
 //!
 //! The words are a job, how many inputs it has, and a number that its inputs are made by; the job `all` is each of them, with a
 //! few inputs. One line is printed for each job: its name, and a digest of all its results. The text files, caches, names and
-//! contents are made here, in the sizes and proportions of real ones.
+//! contents are made here, in the sizes and proportions of real ones. In place of a job, `inputs` prints what a program over the
+//! library for C asks.
 #![tactic(auto)]
 
 mod contents;
 mod database;
 mod digest;
+mod inputs;
 mod jobs;
 mod library;
 mod names;
@@ -18,6 +20,7 @@ mod texts;
 use digest::Digest;
 use jobs::Job;
 use random::Random;
+use std::io::{BufWriter, Write};
 use std::{env, io};
 
 fn main(rt: HostRuntime) -> io::Result<()> {
@@ -27,6 +30,9 @@ fn main(rt: HostRuntime) -> io::Result<()> {
     };
     let count = words.next().map_or(0, |word| word.parse().unwrap_or(0));
     let seed = words.next().map_or(0, |word| word.parse().unwrap_or(0));
+    if name.as_str() == "inputs" {
+        return print_inputs(&rt, count, seed);
+    }
     let all = [
         "names", "contents", "folder", "build", "plain", "awkward", "library",
     ];
@@ -57,4 +63,17 @@ fn digest_of(rt: &HostRuntime, name: &str, count: u64, seed: u64) -> io::Result<
         _ => library::library(&mut job)?,
     }
     Ok(digest.value())
+}
+
+fn print_inputs(rt: &HostRuntime, count: u64, seed: u64) -> io::Result<()> {
+    let mut digest = Digest::new();
+    let mut job = Job {
+        alloc: rt.alloc(),
+        random: Random::new(seed),
+        count,
+        digest: &mut digest,
+    };
+    let mut out = BufWriter::with_capacity(rt.alloc(), 65_536, rt.stdout())?;
+    inputs::write(&mut job, &mut out)?;
+    out.flush()
 }
