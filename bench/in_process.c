@@ -62,6 +62,11 @@ int main(int count, char **words) {
     }
     cache.at = read_all(words[3], &cache.length);
     take_items(words[4]);
+    /* once, and not measured */
+    asking *pay = asking_of("pay");
+    if (pay != NULL && strcmp(words[1], "open") != 0) {
+        pay(NULL);
+    }
     is_told = true;
     turn(ask);
     is_told = false;
