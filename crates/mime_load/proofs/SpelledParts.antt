@@ -1,4 +1,4 @@
--- Names and magic that a cache has stand where its header that was read says, and what a cache spells it has.
+-- Names, pairs, icons and magic that a cache has stand where its header that was read says, and what a cache spells it has.
 use Rattle.std.proofs.Common.{◌≡◌, ◌≤◌, ℕ, List, length, slice_index, ap, sym, subst, arith}
 use Rattle.mime_base.specs.Cache.Bytes.{Stands}
 use Rattle.mime_base.specs.Database.{PlainDatabase}
@@ -12,6 +12,7 @@ use Rattle.mime_base.specs.Format.Stored.{glob_rules, literal_rules, tree_rules}
 use Rattle.mime_base.specs.Format.SuffixTree.{tree_size}
 use Rattle.mime_base.specs.Magic.{PlainSection}
 use Rattle.mime_base.specs.declared.database.rule.GlobRule.{GlobRule}
+use Rattle.mime_load.specs.IconLists.{HasIcons}
 use Rattle.mime_load.specs.MagicStanding.{HasMagic, MagicStands}
 use Rattle.mime_load.specs.NameLists.{HasNames, rule_bytes}
 use Rattle.mime_load.specs.PairLists.{HasPairs}
@@ -58,6 +59,19 @@ pairs_read c numbers aliases parents is has =
     subst (λ (ns : List ℕ). ReadsPairs c ns aliases parents) (sym (same_header c numbers has.offsets is has.header))
     (record { aliases = has.aliases; parents = has.parents })
 
+-- The lists that icons are found by, where a header that was read says.
+pub record ReadsIcons (c numbers : List ℕ) (alias_pairs icon_pairs generic_pairs : List (List ℕ × List ℕ)) : Type 0 where
+  pub aliases : PairsAt (Stands c) (slice_index numbers 1) alias_pairs
+  pub icons : PairsAt (Stands c) (slice_index numbers 8) icon_pairs
+  pub generic_icons : PairsAt (Stands c) (slice_index numbers 9) generic_pairs
+
+-- they stand there
+pub icons_read : (c numbers : List ℕ) (aliases icons generic_icons : List (List ℕ × List ℕ)) → IsHeader c numbers
+    → HasIcons c aliases icons generic_icons → ReadsIcons c numbers aliases icons generic_icons
+icons_read c numbers aliases icons generic_icons is has =
+    subst (λ (ns : List ℕ). ReadsIcons c ns aliases icons generic_icons) (sym (same_header c numbers has.offsets is has.header))
+    (record { aliases = has.aliases; icons = has.icons; generic_icons = has.generic_icons })
+
 -- the magic list does
 pub magic_read : (c numbers : List ℕ) (sections : List PlainSection) → IsHeader c numbers → HasMagic c sections
     → MagicStands c (slice_index numbers 6) sections
@@ -88,6 +102,16 @@ module _ (c : List ℕ) (b : PlainDatabase) (spelled : Spells c b) (limits : IsW
     header = spelled.header;
     magic = record { list = spelled.magic; allowed = limits.lines };
   }
+
+-- a cache has the icons that it spells
+pub spelled_icons : (c : List ℕ) (b : PlainDatabase) → Spells c b → HasIcons c b.aliases b.icons b.generic_icons
+spelled_icons c b spelled = record {
+  offsets = spelled.offsets;
+  header = spelled.header;
+  aliases = spelled.aliases;
+  icons = spelled.icons;
+  generic_icons = spelled.generic_icons;
+}
 
 -- the records of its rules have room in a cache that is packed
 pub packed_rules : (c : List ℕ) (b : PlainDatabase) → Packed c b → rule_bytes b.rules ≤ length c

@@ -1,6 +1,7 @@
 pub mod Adding
 pub mod Faults
 pub mod FirstUnread
+pub mod IconLists
 pub mod Lent
 pub mod MagicStanding
 pub mod NameLists

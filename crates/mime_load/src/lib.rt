@@ -16,6 +16,7 @@
 mod ending;
 mod extent;
 mod holding;
+mod icon_lists;
 mod leaf;
 mod line;
 mod lines;
@@ -42,6 +43,7 @@ mod unread;
 
 pub use extent::magic_extent;
 pub use holding::{behind_first, first_line_matches};
+pub use icon_lists::{IconLists, read_icons};
 pub use leaf::LeafRule;
 pub use line::LentLine;
 pub use lists::Lists;

@@ -57,16 +57,20 @@ pub fn icons_at<'a>(
     Ok(pairs)
 }
 
-/// The pairs of the list at `at`.
-fn pairs_at<'a>(
+/// The pairs of the list at `at`, whichever of the three it is.
+pub fn pairs_at<'a>(
     source: &Source<'_, 'a>,
     at: u64,
     taking: &mut Taking,
 ) -> Result<Vec<LentPair<'a>>, Unread>
+    // It is an offset.
     requires at { at < 2 ^ 32 }
+    // A list of these pairs stands there.
     ensures stand { IfOk result (λ pairs. PairsAt (Stands source.now.counted.now) at (plain_pairs pairs.items)) }
+    // Of pairs that stand there only memory can be short.
     ensures need { (pairs : List (List ℕ × List ℕ)) → PairsAt (Stands source.now.counted.now) at pairs →
         IfErr result (λ e. e ≡ Unread.OutOfMemory) }
+    // At most a record for each eight bytes of the cache is visited, and a text for each four read; no room is taken.
     ensures looks { OnlyLooks (1 + length source.now.counted.now / 8) (length source.now.counted.now / 4) taking.old taking.new }
 {
     let count = read_count(source, at, 8, taking)?;
