@@ -97,7 +97,7 @@ static mimelook_report extent(struct asked of, struct written *to) {
 }
 
 /* Question number n: all functions, each over several names and types, missing ones too. */
-enum { QUESTIONS = 31 };
+enum { QUESTIONS = 35 };
 
 static mimelook_report ask(struct asked of, int question, struct written *to) {
     static const char *const names[] = {"A.GZ", "mk", "x", "", NULL}, *const types[] = {"t/h", "t/g", "t/m", "no type", NULL};
@@ -118,8 +118,10 @@ static mimelook_report ask(struct asked of, int question, struct written *to) {
         return which == 3 ? extent(of, to) : unalias(of, types[2 * which], to);
     case 6:
         return parents(of, types[which + 1], which == 2 ? 0 : PARENTS, to);
+    case 7:
+        return icons(of, types[which], ROOM, to);
     default:
-        return which == 0 ? icons(of, types[0], ROOM, to) : which == 1 ? icons(of, types[1], 0, to) : listed_icons(of, types[which + 1], to);
+        return which == 0 ? icons(of, types[1], 0, to) : listed_icons(of, types[which + 1], to);
     }
 }
 

@@ -13,6 +13,8 @@ pub mod Targets
 pub mod TargetSteps
 pub mod ReadLists
 pub mod PairMarks
+pub mod NamedPairs
 pub mod Parents
 pub mod Steps
 pub mod ReadPairs
+pub mod ReadIcons

@@ -41,4 +41,6 @@ pub mod Indexed
 pub mod IndexNodes
 pub mod Paid
 pub mod PairsReadBack
+pub mod Named
+pub mod IconsReadBack
 pub mod Rows

@@ -1,5 +1,5 @@
 -- What is paid before a part of a cache is read back.
-use Rattle.std.specs.Prelude.{◌≡◌, ◌⊎◌, ℕ, ◌+◌, ◌-◌, ◌/◌, ◌==◌, Bool, true, false, List, Option, None, Some, length}
+use Rattle.std.specs.Prelude.{◌≡◌, ◌⊎◌, ℕ, ◌+◌, ◌-◌, ◌*◌, ◌/◌, ◌==◌, Bool, true, false, List, Option, None, Some, length}
 use Rattle.mime_view.specs.Globs.{globs_listed}
 
 -- as many records as reading back the names of a cache of that length may visit
@@ -14,6 +14,10 @@ magic_due length = 2 + length / 8
 abbrev pub pairs_price : ℕ → ℕ
 pairs_price length = 3 + length / 2 + length / 8
 
+-- as many records as reading back its aliases and icons may visit
+abbrev pub icons_price : ℕ → ℕ
+icons_price length = 4 + 3 * (length / 8)
+
 -- A cache, and what is owed before more of it is read back.
 pub record PlainPaidCache : Type 0 where
   -- The cache.
@@ -26,6 +30,8 @@ pub record PlainPaidCache : Type 0 where
   pub magic : Option ℕ
   -- What is owed for the aliases and the parents; none once they were tried.
   pub pairs : Option ℕ
+  -- What is owed for the aliases and the icons; none once they were tried.
+  pub icons : Option ℕ
 
 -- Nothing is paid yet.
 pub record OwesAll (paid : PlainPaidCache) : Type 0 where
@@ -35,6 +41,8 @@ pub record OwesAll (paid : PlainPaidCache) : Type 0 where
   pub owed_magic : paid.magic ≡ Some (magic_due (length paid.cache))
   -- So do the aliases and the parents.
   pub owed_pairs : paid.pairs ≡ Some (pairs_price (length paid.cache))
+  -- So do the aliases and the icons.
+  pub owed_icons : paid.icons ≡ Some (icons_price (length paid.cache))
   -- Entries of the glob list don't pay for the magic list: as many as the list states, if it lies in the cache.
   pub entries : (paid.listed ≡ globs_listed paid.cache) ⊎ (paid.listed ≡ 0)
 
@@ -55,6 +63,10 @@ paid_by_content visited it = record it { magic = less it.magic visited }
 -- the answer whether a type is another pays for the aliases and the parents
 abbrev pub paid_by_types : ℕ → PlainPaidCache → PlainPaidCache
 paid_by_types visited it = record it { pairs = less it.pairs visited }
+
+-- the icons of a type pay for the aliases and the icons
+abbrev pub paid_by_icons : ℕ → PlainPaidCache → PlainPaidCache
+paid_by_icons visited it = record it { icons = less it.icons visited }
 
 -- it wasn't tried yet, and owes nothing
 abbrev pub is_due : Option ℕ → Bool

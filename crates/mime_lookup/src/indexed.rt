@@ -6,6 +6,7 @@
 pub mod candidates;
 pub mod first_line;
 pub mod heads;
+pub mod icons;
 pub mod kept;
 pub mod line_head;
 pub mod line_search;

@@ -16,7 +16,8 @@
 //! [`icon_again`]. A [`PaidCache`] is read back once its answers have paid for that.
 //! [`look_up_plain`] answers the same by trying every rule, line and pair of a database, and so do [`is_a_plain`] and
 //! [`icon_of_plain`] for one question. [`look_up_indexed`] and [`is_a_indexed`] go by an [`IndexedDatabase`] that is made of
-//! one for many questions. A [`MagicIndex`] is made of the magic that was read back from a cache.
+//! one for many questions, and [`icon_of_indexed`] by its [`DatabaseIcons`]. A [`MagicIndex`] is made of the magic that was read
+//! back from a cache.
 //!
 //! Read `cached` first, which has the two halves of a lookup: `cached::by_name`, what a name gives by
 //! itself, and `cached::by_content`, what a front of the content then gives. Then what these take in
@@ -24,7 +25,8 @@
 //! `cached::ancestry`, the search for a subclass. `content` and `reading` are what a lookup reads from and
 //! how. `checking` has the same steps over a database, with `sniff`; what they ask of one is `asked`. `lists` answers it
 //! by trying all, with `kept`, `candidates` and `ancestry`, the last over `places`, the index of the pairs, and
-//! `indexed` by its parts. `climb` is what a question for a subclass begins with where the pairs are at hand.
+//! `indexed` by its parts. `climb` is what a question for a subclass begins with where the pairs are at hand, and `icon_index` what
+//! icons are found by, of a database and of a cache that was read back.
 #![tactic(auto)]
 
 mod ancestry;
@@ -36,10 +38,13 @@ mod checking;
 mod climb;
 mod content;
 mod fixed;
+mod icon_index;
 mod indexed;
 mod kept;
 mod limits;
 mod lists;
+mod named;
+mod named_pairs;
 mod order;
 mod pairs;
 mod places;
@@ -59,6 +64,7 @@ pub use cached::{
 };
 pub use content::{Content, ReadFault, Untold};
 pub use indexed::IndexedDatabase;
+pub use indexed::icons::{DatabaseIcons, icon_of_indexed};
 pub use indexed::look_up::look_up_indexed;
 pub use indexed::magic_index::MagicIndex;
 pub use indexed::subclass::is_a_indexed;

@@ -1,5 +1,6 @@
-//! Names and subclasses by the parts of a cache that were read back once.
+//! Names, subclasses and icons by the parts of a cache that were read back once.
 
+pub mod icons;
 pub mod marked;
 pub mod name_types;
 pub mod names;

@@ -40,7 +40,7 @@ lent-marked-more pairs i d marks place within is small are =
 
 module _ (marks : List Bool) (kind : List ℕ) (none : get_or marks (mark kind) false ≡ false) where
   -- a pair whose name has its mark is of another name
-  other_name : (pair : LentPair) → HasMark marks pair → bytes_eq pair.name.now kind ≡ false
+  pub other_name : (pair : LentPair) → HasMark marks pair → bytes_eq pair.name.now kind ≡ false
   other_name pair has = by_test (bytes_eq pair.name.now kind) refl
     where
       by_test : (t : Bool) → bytes_eq pair.name.now kind ≡ t → bytes_eq pair.name.now kind ≡ false

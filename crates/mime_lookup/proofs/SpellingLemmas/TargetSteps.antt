@@ -35,7 +35,7 @@ resolved_given c (pair ∷ pairs) kind targets =
     by_test false rest = rest
 
 -- a list of pairs that stands lies in the cache
-pairs_inside : (c : List ℕ) (at : ℕ) (entries : List (List ℕ × List ℕ)) → ListAt (Stands c) 8 (IsPair (Stands c)) at entries
+pub pairs_inside : (c : List ℕ) (at : ℕ) (entries : List (List ℕ × List ℕ)) → ListAt (Stands c) 8 (IsPair (Stands c)) at entries
     → LiesList c at 8
 pairs_inside c at entries stand =
     rw (count_read c 8 (IsPair (Stands c)) at entries stand) (list_inside c 8 (IsPair (Stands c)) (pair_long c) at entries stand)

@@ -1,41 +1,16 @@
--- The targets of aliases: one pair more, and rules by them.
-use Rattle.std.proofs.Common.{◌≡◌, ℕ, ◌+◌, ◌<◌, Bool, true, false, cond, List, [], ◌∷◌, ◌++◌, length, get_or, map, drop, Option, Some}
-use Rattle.std.proofs.Common.{refl, sym, ap, ap₂, ◌∙◌, bytes_eq, add-one, append_assoc}
+-- The targets of aliases, and rules by them.
+use Rattle.std.proofs.Common.{◌≡◌, ℕ, List, [], ◌∷◌, ◌++◌, map, Option, refl, sym, ap, ap₂, ◌∙◌, append_assoc}
 use Rattle.std.specs.HashMap.{HashMap}
-use Rattle.std.specs.Map.{update}
 use Rattle.std.specs.Option.{option_map_or}
-use Rattle.std.proofs.Math.Seq.{drop-cons}
 use Rattle.std.proofs.lemmas.List.{map-append}
 use denote.Bor.{Bor}
-use Rattle.mime_base.specs.Database.Subclass.{resolved}
 use Rattle.mime_base.specs.declared.database.rule.GlobRule.{GlobRule}
-use Rattle.mime_load.specs.Lent.{plain_pairs}
-use Rattle.mime_load.specs.declared.pair.LentPair.{LentPair}
 use Rattle.mime_lookup.specs.Indexed.{unaliased_rule}
 use Rattle.mime_lookup.specs.ReadBack.{AreTargets, target_rule}
 
 -- the target that was found of a type, or the type itself
 abbrev pub found_target : Option (Bor (List ℕ)) → List ℕ → List ℕ
 found_target found kind = option_map_or (λ target. target.now) found kind
-
--- a pair in front of others, whose target is put into a map
-pub resolved-more : (aliases : List LentPair) (low : ℕ) (pair : LentPair) (kind : List ℕ) (before : List ℕ → Option (Bor (List ℕ)))
-    → low < length aliases → pair ≡ get_or aliases low pair
-    → resolved (plain_pairs (drop (low + 1) aliases)) kind ≡ found_target (before kind) kind
-    → resolved (plain_pairs (drop low aliases)) kind ≡ found_target (update bytes_eq before pair.name.now (Some pair.target) kind) kind
-unfolding resolved
-resolved-more aliases low pair kind before within is rest =
-    ap (λ (pairs : List LentPair). resolved (plain_pairs pairs) kind) split ∙ by_test (bytes_eq pair.name.now kind)
-  where
-    split : drop low aliases ≡ pair ∷ drop (low + 1) aliases
-    split =
-        drop-cons aliases low pair within
-        ∙ ap₂ (λ (p : LentPair) (ps : List LentPair). p ∷ ps) (sym is) (ap (λ (n : ℕ). drop n aliases) (sym (add-one low)))
-
-    by_test : (t : Bool) → cond t pair.target.now (resolved (plain_pairs (drop (low + 1) aliases)) kind)
-        ≡ found_target (cond t (Some pair.target) (before kind)) kind
-    by_test true = refl
-    by_test false = rest
 
 -- rules by the targets are rules after one alias step
 pub rules_by_targets : {S : Type 0} (aliases : List (List ℕ × List ℕ)) (targets : HashMap (Bor (List ℕ)) (Bor (List ℕ)) S)

@@ -33,11 +33,12 @@ use crate::cached::magic_of::read_magic;
 use crate::cached::name_types::{NameTypes, types_of};
 use crate::cached::sniff::{Finding, sniff_front, sniff_indexed};
 use crate::indexed::magic_index::MagicIndex;
+use crate::read_back::icons::IndexedIcons;
 use crate::read_back::name_types::types_of as types_indexed;
 use crate::read_back::names::IndexedNames;
 use crate::read_back::pairs::IndexedPairs;
 use mime_base::{Counted, Host, Meter};
-use mime_load::{Unread, read_names, read_pairs};
+use mime_load::{Unread, read_icons, read_names, read_pairs};
 use mime_view::{Budget, Cache, CacheFault, Spending, Which};
 use std::alloc::Global;
 use std::marker::Model;
@@ -58,6 +59,8 @@ pub struct IndexedCache<'a> {
     magic: Option<Box<MagicIndex<'a>>>,
     /// The aliases and the parents, where they were read back.
     pairs: Option<Box<IndexedPairs<'a>>>,
+    /// The aliases and the icons, where they were read back.
+    icons: Option<Box<IndexedIcons<'a>>>,
 }
 
 impl<'a> Model for IndexedCache<'a> {
@@ -72,7 +75,8 @@ impl<'a> Model for IndexedCache<'a> {
     ghost invariant = { λ indexed. Opens indexed.cache × (indexed.counted ≡ indexed.cache)
         × IfSome indexed.names (λ names. names.value ≡ indexed.cache)
         × IfSome indexed.magic (λ magic. IsMagicOf indexed.cache magic.value)
-        × IfSome indexed.pairs (λ pairs. pairs.value ≡ indexed.cache) };
+        × IfSome indexed.pairs (λ pairs. pairs.value ≡ indexed.cache)
+        × IfSome indexed.icons (λ icons. icons.value ≡ indexed.cache) };
 }
 
 impl<'a> IndexedCache<'a> {
@@ -98,6 +102,7 @@ impl<'a> IndexedCache<'a> {
             names: None,
             magic: None,
             pairs: None,
+            icons: None,
         })
     }
 
@@ -163,6 +168,37 @@ impl<'a> IndexedCache<'a> {
     {
         match &self.pairs {
             Some(pairs) => Some(pairs),
+            None => None,
+        }
+    }
+
+    /// Reads the aliases and both lists of icons back, for many questions for icons. It takes memory for each alias and each type that
+    /// has an icon.
+    ///
+    /// # Errors
+    ///
+    /// One of these lists spells nothing, or an allocation was refused. Then nothing changes.
+    pub fn read_icons(&mut self, alloc: Global, meter: &mut Meter) -> Result<(), Unread>
+        // The cache is the same.
+        ensures same { self.new ≡ self.old }
+        // It visits at most three records for each eight bytes of the cache, and four.
+        ensures nodes { meter.new.nodes ≤ meter.old.nodes + 3 * (length self.old / 8) + 4 }
+    {
+        let lists = read_icons(alloc, &self.counted, meter)?;
+        let index = IndexedIcons::new(alloc, self.counted.again(), &lists)?;
+        self.icons = Some(Box::new(alloc, index)?);
+        Ok(())
+    }
+
+    /// The aliases and the icons, where they were read back.
+    pub(crate) fn icons(&self) -> Option<&IndexedIcons<'a>>
+        // They are those of the cache.
+        ensures icons { IfSome result (λ icons. icons.now ≡ self.now) }
+        // It did open.
+        ensures opens { Opens self.now }
+    {
+        match &self.icons {
+            Some(icons) => Some(icons),
             None => None,
         }
     }

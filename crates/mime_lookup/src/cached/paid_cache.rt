@@ -1,16 +1,16 @@
 //! A cache that is read back once its answers have paid for that. This project's own.
 //!
 //! What names need is read back once answers have visited as many records as that may visit; so are the aliases and the parents once
-//! answers whether a type is another have. The magic list is read back once twice as
-//! many were visited by those whose content was read, since one of its records takes as long as two that a walk visits; the entries of
-//! the glob list aren't counted there, which a walk passes quickly. So what answers take stays within a stated multiple of what walks
-//! take, whatever the cache is, and few questions read nothing back. Each part is read back once at most: where memory is refused, or the
-//! cache spells no such list, the walk goes on.
+//! answers whether a type is another have, and the aliases and the icons once the icons of types have. The magic list is read back once
+//! twice as many were visited by those whose content was read, since one of its records takes as long as two that a walk visits; the
+//! entries of the glob list aren't counted there, which a walk passes quickly. So what answers take stays within a stated multiple of
+//! what walks take, whatever the cache is, and few questions read nothing back. Each part is read back once at most: where memory is
+//! refused, or the cache spells no such list, the walk goes on.
 
 ghost use Rattle.std.specs.Prelude.{◌≡◌, ◌+◌, ◌≤◌, None, false, length, true, IfOk, MatchResult, OnOk};
 ghost use Rattle.mime_base.specs.Meter.{raised};
 ghost use Rattle.mime_lookup.specs.Paid.{OwesAll, is_due, less, magic_due, names_price, paid_by_content, paid_by_name};
-ghost use Rattle.mime_lookup.specs.Paid.{pairs_price, paid_by_types};
+ghost use Rattle.mime_lookup.specs.Paid.{icons_price, paid_by_icons, paid_by_types, pairs_price};
 ghost use Rattle.mime_view.specs.Opening.{IsOpenFault, Opens};
 
 use crate::cached::indexed_cache::IndexedCache;
@@ -29,6 +29,8 @@ pub struct PaidCache<'a> {
     magic: Option<u64>,
     /// What is owed for the aliases and the parents.
     pairs: Option<u64>,
+    /// What is owed for the aliases and the icons.
+    icons: Option<u64>,
     /// How many entries the glob list has.
     listed: u64,
 }
@@ -44,6 +46,7 @@ impl<'a> Model for PaidCache<'a> {
       names = paid.names;
       magic = paid.magic;
       pairs = paid.pairs;
+      icons = paid.icons;
     } };
 }
 
@@ -70,6 +73,7 @@ impl<'a> PaidCache<'a> {
             names: Some(names_price(length)),
             magic: Some(magic_price(length)),
             pairs: Some(pairs_price(length)),
+            icons: Some(icons_price(length)),
             listed,
         })
     }
@@ -82,12 +86,12 @@ impl<'a> PaidCache<'a> {
         &self.indexed
     }
 
-    /// Reads back what is paid: what names need, else the magic list, else the aliases and the parents.
+    /// Reads back what is paid: what names need, else the magic list, else the aliases and the parents, else the aliases and the icons.
     #[inline]
     pub fn read_paid(&mut self, alloc: Global, meter: &mut Meter)
         // What is still owed is not read back: all stays, and nothing is visited.
         ensures unpaid { is_due self.old.names ≡ false → is_due self.old.magic ≡ false → is_due self.old.pairs ≡ false
-            → (self.new ≡ self.old) × (meter.new ≡ meter.old) }
+            → is_due self.old.icons ≡ false → (self.new ≡ self.old) × (meter.new ≡ meter.old) }
         // Names that owe nothing are tried, and are then none.
         ensures names { is_due self.old.names ≡ true → self.new ≡ record self.old { names = None } }
         // That visits no more records than were paid for it.
@@ -105,6 +109,12 @@ impl<'a> PaidCache<'a> {
         // That visits no more than was paid for them.
         ensures pairs_cost { is_due self.old.names ≡ false → is_due self.old.magic ≡ false → is_due self.old.pairs ≡ true
             → meter.new.nodes ≤ meter.old.nodes + pairs_price (length self.old.cache) }
+        // So it is with the aliases and the icons, where all others are still owed or were tried.
+        ensures icons { is_due self.old.names ≡ false → is_due self.old.magic ≡ false → is_due self.old.pairs ≡ false
+            → is_due self.old.icons ≡ true → self.new ≡ record self.old { icons = None } }
+        // That visits no more than was paid for them.
+        ensures icons_cost { is_due self.old.names ≡ false → is_due self.old.magic ≡ false → is_due self.old.pairs ≡ false
+            → is_due self.old.icons ≡ true → meter.new.nodes ≤ meter.old.nodes + icons_price (length self.old.cache) }
     {
         if is_due(self.names) {
             self.names = None;
@@ -115,6 +125,9 @@ impl<'a> PaidCache<'a> {
         } else if is_due(self.pairs) {
             self.pairs = None;
             self.read_pairs(alloc, meter);
+        } else if is_due(self.icons) {
+            self.icons = None;
+            self.read_icons(alloc, meter);
         }
     }
 
@@ -146,6 +159,15 @@ impl<'a> PaidCache<'a> {
         ensures { self.new ≡ paid_by_types visited self.old }
     {
         self.pairs = less(self.pairs, visited);
+    }
+
+    /// Counts what the icons of a type visited.
+    #[inline]
+    pub fn pay_icons(&mut self, visited: u64)
+        // Less is owed for the aliases and the icons.
+        ensures { self.new ≡ paid_by_icons visited self.old }
+    {
+        self.icons = less(self.icons, visited);
     }
 
     // Never inlined: it is done once.
@@ -180,6 +202,17 @@ impl<'a> PaidCache<'a> {
         // Where nothing was read back, the walk goes on.
         let _ = self.indexed.read_pairs(alloc, meter);
     }
+
+    // Never inlined: it is done once.
+    #[inline(never)]
+    fn read_icons(&mut self, alloc: Global, meter: &mut Meter)
+        ensures same { self.new ≡ self.old }
+        // It visits no more records than were paid for it.
+        ensures cost { meter.new.nodes ≤ meter.old.nodes + icons_price (length self.old.cache) }
+    {
+        // Where nothing was read back, the walk goes on.
+        let _ = self.indexed.read_icons(alloc, meter);
+    }
 }
 
 /// What is paid before the names of a cache of this length are read back: as many records as that may visit.
@@ -204,6 +237,14 @@ fn pairs_price(length: u64) -> u64
     ensures { result ≡ pairs_price length }
 {
     3 + length / 2 + length / 8
+}
+
+/// What is paid before its aliases and its icons are: as many records as that may visit.
+fn icons_price(length: u64) -> u64
+    requires small { length ≤ 268435456 }
+    ensures { result ≡ icons_price length }
+{
+    4 + 3 * (length / 8)
 }
 
 /// What is owed after that many records were visited.

@@ -4,6 +4,7 @@ ghost use Rattle.std.specs.Prelude.{◌≡◌, ◌<◌, get_or, length, IfOk};
 ghost use Rattle.mime_load.specs.Lent.{plain_pairs};
 ghost use Rattle.mime_lookup.specs.ReadBack.{AreTargets, target_in};
 
+use crate::named::targets_by_name;
 use indexmap::IndexMap;
 use mime_base::OutOfMemory;
 use mime_load::LentPair;
@@ -17,13 +18,7 @@ pub fn targets_of<'a>(
     // Each type goes one alias step by them.
     ensures { IfOk result (AreTargets (plain_pairs aliases.now)) }
 {
-    let mut targets = IndexMap::new(alloc);
-    let mut place = aliases.len();
-    while place > 0 {
-        place -= 1;
-        let pair = pair_at(aliases, place);
-        targets.insert(pair.name, pair.target)?;
-    }
+    let targets = targets_by_name(alloc, aliases)?;
     Ok(targets)
 }
 

@@ -6,6 +6,7 @@ mod aliases;
 mod counts;
 mod cut;
 mod hostile;
+mod icons;
 mod many;
 mod name_alone;
 mod names;

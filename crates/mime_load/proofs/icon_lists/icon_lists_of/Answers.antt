@@ -21,18 +21,21 @@ returns-in_err-header-clause-need c = λ aliases icons generic_icons has within.
 
 pub returns-in_err-aliases-clause-need : goal.returns-in_err-aliases-clause-need
 returns-in_err-aliases-clause-need c = λ aliases icons generic_icons has within.
-    let read = icons_read c.args.source.now.counted.now c.in_ok-header.header aliases icons generic_icons c.in_ok-header.ensures.header has in
+    let cache = c.args.source.now.counted.now in
+    let read = icons_read cache c.in_ok-header.header aliases icons generic_icons c.in_ok-header.ensures.header has in
     let p = err_from_is_err_and c.from_residual-in_err-aliases.result c.from_residual-in_err-aliases.ensures.1 in
     rw (p.1, p.2) (c.in_err-aliases.ensures.need aliases (rw c.from.ensures read.aliases))
 
 pub returns-in_err-icons-clause-need : goal.returns-in_err-icons-clause-need
 returns-in_err-icons-clause-need c = λ aliases icons generic_icons has within.
-    let read = icons_read c.args.source.now.counted.now c.in_ok-header.header aliases icons generic_icons c.in_ok-header.ensures.header has in
+    let cache = c.args.source.now.counted.now in
+    let read = icons_read cache c.in_ok-header.header aliases icons generic_icons c.in_ok-header.ensures.header has in
     let p = err_from_is_err_and c.from_residual-in_err-icons.result c.from_residual-in_err-icons.ensures.1 in
     rw (p.1, p.2) (c.in_err-icons.ensures.need icons (rw c.from-2.ensures read.icons))
 
 pub returns-in_err-generic_icons-clause-need : goal.returns-in_err-generic_icons-clause-need
 returns-in_err-generic_icons-clause-need c = λ aliases icons generic_icons has within.
-    let read = icons_read c.args.source.now.counted.now c.in_ok-header.header aliases icons generic_icons c.in_ok-header.ensures.header has in
+    let cache = c.args.source.now.counted.now in
+    let read = icons_read cache c.in_ok-header.header aliases icons generic_icons c.in_ok-header.ensures.header has in
     let p = err_from_is_err_and c.from_residual-in_err-generic_icons.result c.from_residual-in_err-generic_icons.ensures.1 in
     rw (p.1, p.2) (c.in_err-generic_icons.ensures.need generic_icons (rw c.from-3.ensures read.generic_icons))

@@ -3,7 +3,7 @@
 use crate::tests::checked::alike;
 use crate::tests::sample::SAMPLE;
 use mime_base::{Counted, Host, Meter};
-use mime_lookup::{Order, PaidCache, is_a_again, look_up_name_again, sniff_again};
+use mime_lookup::{Order, PaidCache, icon_again, is_a_again, look_up_name_again, sniff_again};
 use std::process::Abort;
 use std::test::Fail;
 
@@ -15,6 +15,9 @@ const MAGIC_PRICE: u64 = 32;
 
 /// What is paid for the aliases and the parents: a record for each two, one for each eight, and three.
 const PAIRS_PRICE: u64 = 153;
+
+/// What is paid for the aliases and the icons: three records for each eight, and four.
+const ICONS_PRICE: u64 = 94;
 
 /// More answers than any price takes.
 const ANSWERS: u64 = 40;
@@ -92,6 +95,36 @@ fn types_pay(rt: HostRuntime) -> Result<(), Fail> {
         }
         paid.pay_types(meter.nodes);
         visited = visited.saturating_add(meter.nodes);
+    }
+    are_read(&rt, &read, &due);
+    Ok(())
+}
+
+/// The icons of a type visit less once they are read back.
+#[test]
+fn icons_pay(rt: HostRuntime) -> Result<(), Fail> {
+    let alloc = rt.alloc();
+    let mut paid = PaidCache::open(Counted::new(&SAMPLE), &mut Meter::new())?;
+    let walked = icon_again(alloc, paid.indexed(), b"t/h")?;
+    let (mut read, mut due) = (Vec::new(alloc), Vec::new(alloc));
+    let mut visited: u64 = 0;
+    for _ in 0..ANSWERS {
+        paid.read_paid(alloc, &mut Meter::new());
+        let icons = icon_again(alloc, paid.indexed(), b"t/h")?;
+        alike(
+            &rt,
+            "icons",
+            (icons.icon.as_slice(), icons.generic.as_slice()),
+            (&b"t-g"[..], &b"t-x-generic"[..]),
+        );
+        if icons.meter.nodes < walked.meter.nodes {
+            read.push(visited)?;
+        }
+        if visited >= ICONS_PRICE {
+            due.push(visited)?;
+        }
+        paid.pay_icons(icons.meter.nodes);
+        visited = visited.saturating_add(icons.meter.nodes);
     }
     are_read(&rt, &read, &due);
     Ok(())

@@ -4,7 +4,7 @@ use Rattle.mime_lookup.specs.Icons.{PlainIcons, generic_of_media, icons_by, name
 use Rattle.mime_lookup.specs.StepFaults.{IsIconFault}
 use Rattle.mime_lookup.proofs.LookUpLemmas.Askings.{opened_stops}
 use Rattle.mime_lookup.proofs.StopLemmas.Cause.{caused}
-use Rattle.mime_lookup.proofs.cached.icons.find_icons.Goals as goal
+use Rattle.mime_lookup.proofs.cached.icons.walk.Goals as goal
 
 pub returns-in_err-kind-clause-stops : goal.returns-in_err-kind-clause-stops
 returns-in_err-kind-clause-stops c =
