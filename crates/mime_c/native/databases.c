@@ -228,6 +228,12 @@ static mimelook_report ask_types(mimelook_database *database) {
     return mimelook_database_is_a(database, bytes_of("t/h"), 3, bytes_of("t/m"), 3, &is);
 }
 
+static mimelook_report ask_icons(mimelook_database *database) {
+    uint8_t icon[ROOM], generic[ROOM];
+    mimelook_icon_lengths lengths;
+    return mimelook_database_icons(database, bytes_of("t/h"), 3, icon, ROOM, generic, ROOM, &lengths);
+}
+
 /* Answers visit what they visit over the bytes until they have paid the price, and less after that. */
 static void reads_back(question *ask, uint64_t price) {
     mimelook_database *database;
@@ -264,6 +270,7 @@ int main(void) {
     reads_back(ask_name, 5 + sizeof SAMPLE / 4 + sizeof SAMPLE / 8);
     reads_back(ask_content, 2 + sizeof SAMPLE / 8);
     reads_back(ask_types, 3 + sizeof SAMPLE / 2 + sizeof SAMPLE / 8);
+    reads_back(ask_icons, 4 + 3 * (sizeof SAMPLE / 8));
     many_times();
     return told();
 }

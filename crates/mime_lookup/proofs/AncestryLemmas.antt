@@ -9,6 +9,7 @@ pub mod Searches
 pub mod Above
 pub mod OneParent
 pub mod MediaTypes
+pub mod Hyphens
 pub mod PlaceMarks
 pub mod ParentSteps
 pub mod PairsLeft

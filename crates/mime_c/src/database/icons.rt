@@ -2,7 +2,7 @@
 
 ghost use Rattle.std.specs.Prelude.{◌≡◌};
 ghost use Rattle.mime_c.specs.Handle.{IsByHandle, StaysOpen};
-ghost use Rattle.mime_c.specs.Icons.{IsAskedIcons, IsFoundIcons};
+ghost use Rattle.mime_c.specs.Icons.{IsAskedIcons, IsFoundIcons, IsIcons};
 
 use crate::database::handle::Handle;
 use crate::database::kept::HandleReport;
@@ -11,7 +11,7 @@ use crate::icons::{IconLengths, put_icons};
 use crate::report::{Report, status_report, stop_report};
 use crate::status::NOT_A_TYPE;
 use mime_base::{Meter, is_type_name};
-use mime_lookup::icon_again;
+use mime_lookup::{Icons, Stopped, icon_again};
 use std::alloc::Global;
 
 /// What `mimelook_icons` gives, over what is open.
@@ -44,13 +44,14 @@ pub extern "C" fn mimelook_database_icons(
 // The same of what is open.
 fn ask(
     alloc: Global,
-    opened: &OpenDatabase,
+    opened: &mut OpenDatabase,
     kind: &[u8],
     icon: &mut [u8],
     generic: &mut [u8],
     lengths: &mut IconLengths,
 ) -> Report
-    ensures { IsAskedIcons opened.now kind.now
+    ensures same { opened.new ≡ opened.old }
+    ensures promises { IsAskedIcons opened.old kind.now
         (record { icon = icon.old; generic = generic.old; lengths = lengths.old })
         (record { icon = icon.new; generic = generic.new; lengths = lengths.new }) result }
 {
@@ -64,18 +65,39 @@ fn ask(
 // The same of a type name.
 fn find(
     alloc: Global,
-    opened: &OpenDatabase,
+    opened: &mut OpenDatabase,
     kind: &[u8],
     icon: &mut [u8],
     generic: &mut [u8],
     lengths: &mut IconLengths,
 ) -> Report
-    ensures { IsFoundIcons opened.now kind.now
+    ensures same { opened.new ≡ opened.old }
+    ensures promises { IsFoundIcons opened.old kind.now
         (record { icon = icon.old; generic = generic.old; lengths = lengths.old })
         (record { icon = icon.new; generic = generic.new; lengths = lengths.new }) result }
 {
-    match icon_again(alloc, opened.indexed(), kind) {
+    match search(alloc, opened, kind) {
         Ok(icons) => put_icons(&icons, icon, generic, lengths),
         Err(stopped) => stop_report(stopped),
+    }
+}
+
+// The icons of a type name.
+fn search(alloc: Global, opened: &mut OpenDatabase, kind: &[u8]) -> Result<Icons, Stopped>
+    ensures same { opened.new ≡ opened.old }
+    ensures promises { IsIcons opened.old kind.now result }
+{
+    opened.read_paid(alloc);
+    let found = icon_again(alloc, opened.indexed(), kind);
+    pay(opened, &found);
+    found
+}
+
+// Counts what an answer visited.
+fn pay(opened: &mut OpenDatabase, found: &Result<Icons, Stopped>)
+    ensures same { opened.new ≡ opened.old }
+{
+    if let Ok(icons) = found {
+        opened.pay_icons(icons.meter.nodes);
     }
 }

@@ -87,4 +87,12 @@ impl OpenDatabase {
     {
         self.paid.pay_types(visited);
     }
+
+    /// Counts what the icons of a type visited.
+    pub(super) fn pay_icons(&mut self, visited: u64)
+        // It is the same cache.
+        ensures same { self.new ≡ self.old }
+    {
+        self.paid.pay_icons(visited);
+    }
 }

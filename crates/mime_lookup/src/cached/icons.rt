@@ -16,6 +16,9 @@ use mime_base::{Counted, Meter, OutOfMemory, TypeName};
 use mime_view::CacheFault;
 use std::alloc::Global;
 
+/// How the name of a generic icon ends that is made of a type.
+const GENERIC: &[u8] = b"-x-generic";
+
 /// The icons of a type, and what it took to find them.
 #[derive(Debug, Drop)]
 pub struct Icons {
@@ -188,11 +191,18 @@ pub fn icon_or_hyphens(
 fn with_hyphens(alloc: Global, kind: &[u8]) -> Result<Vec<u8>, OutOfMemory>
     ensures { IfOk result (λ name. name.items ≡ with_hyphens kind.now) }
 {
-    let mut name = Vec::with_capacity(alloc, kind.len())?;
-    for byte in kind {
-        name.push(hyphen_for_slash(*byte))?;
-    }
+    let mut name = Vec::from_slice(alloc, kind)?;
+    put_hyphens(&mut name);
     Ok(name)
+}
+
+/// Puts a hyphen in the place of each slash.
+fn put_hyphens(name: &mut [u8])
+    ensures { name.new ≡ with_hyphens name.old }
+{
+    for byte in name.iter_mut() {
+        *byte = hyphen_for_slash(*byte);
+    }
 }
 
 /// A hyphen for a slash, and any other byte for itself.
@@ -221,8 +231,10 @@ pub fn generic_or_media(
 fn generic_of_media(alloc: Global, kind: &[u8]) -> Result<Vec<u8>, OutOfMemory>
     ensures { IfOk result (λ name. name.items ≡ generic_of_media kind.now) }
 {
-    let mut name = Vec::from_slice(alloc, before_slash(kind))?;
-    name.extend_from_slice(b"-x-generic")?;
+    let front = before_slash(kind);
+    let mut name = Vec::with_capacity(alloc, front.len() + GENERIC.len())?;
+    name.extend_from_slice(front)?;
+    name.extend_from_slice(GENERIC)?;
     Ok(name)
 }
 

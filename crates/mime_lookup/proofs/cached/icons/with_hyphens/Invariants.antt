@@ -1,6 +1,0 @@
-use Rattle.std.proofs.Common.{◌≡◌, map, take}
-use Rattle.mime_lookup.specs.Icons.{hyphen_for_slash}
-use Rattle.mime_lookup.proofs.cached.icons.with_hyphens.Given as goal
-
-abbrev pub invariant-loop-byte : goal.invariant-loop-byte
-invariant-loop-byte l = l.name.items ≡ map hyphen_for_slash (take l.byte-index l.kind)
