@@ -2,7 +2,6 @@
 pub mod PairSteps
 pub mod Places
 pub mod Walks
-pub mod NameMarks
 pub mod Marks
 pub mod MarkSets
 pub mod Searches

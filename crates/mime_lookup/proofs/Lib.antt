@@ -1,6 +1,7 @@
 pub mod OrderLemmas
 pub mod ContentLemmas
 pub mod AncestryLemmas
+mod NameMapLemmas
 pub mod SniffLemmas
 pub mod CostLemmas
 pub mod LookUpLemmas

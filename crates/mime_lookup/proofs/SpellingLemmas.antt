@@ -12,9 +12,9 @@ pub mod IndexTypes
 pub mod Targets
 pub mod TargetSteps
 pub mod ReadLists
-pub mod PairMarks
 pub mod NamedPairs
 pub mod Parents
 pub mod Steps
 pub mod ReadPairs
 pub mod ReadIcons
+pub mod RuleHits

@@ -4,6 +4,7 @@ pub mod CheckingOrder
 pub mod Content
 pub mod Ancestry
 pub mod Marks
+pub mod NameMap
 pub mod Places
 pub mod Climbing
 pub mod Script

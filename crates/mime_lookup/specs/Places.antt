@@ -1,11 +1,9 @@
 -- Where pairs stand: the first place of each name, and after each place the next of the same name.
-use Rattle.std.specs.Prelude.{◌≡◌, ℕ, ◌+◌, ◌<◌, ◌≤◌, List, [], ◌∷◌, length, get_or, drop, Option, None, Some, bytes_eq}
-use Rattle.std.specs.HashMap.{HashMap, get_by}
-use Rattle.std.specs.Borrow.{Bor}
+use Rattle.std.specs.Prelude.{◌≡◌, ℕ, ◌+◌, ◌<◌, ◌≤◌, List, [], ◌∷◌, length, get_or, drop, Option, None, Some}
 use Rattle.mime_base.specs.Database.PlainPairs.{plain_pairs}
 use Rattle.mime_base.specs.Database.Subclass.{Pairs, parents}
 use Rattle.mime_base.specs.declared.database.pair.Pair.{Pair}
-use Rattle.mime_lookup.specs.Marks.{AreMarked}
+use Rattle.mime_lookup.specs.NameMap.{IsNameMap, value_in}
 use Rattle.mime_lookup.specs.declared.places.Above.{Above}
 use Rattle.mime_lookup.specs.declared.places.Above.TheVariants.{Nothing, One, Several}
 use Rattle.mime_lookup.specs.declared.places.PlacedPairs.{PlacedPairs}
@@ -14,10 +12,6 @@ use Rattle.mime_lookup.specs.declared.places.Places.{Places}
 -- the pairs of two lists
 abbrev pub pairs_at : List Pair → List Pair → Pairs
 pairs_at alias_pairs parent_pairs = record { aliases = plain_pairs alias_pairs; parents = plain_pairs parent_pairs }
-
--- the place that a map has for a name
-abbrev pub place_in : {S : Type 0} → HashMap (Bor (List ℕ)) ℕ S → List ℕ → Option ℕ
-place_in map name = get_by (λ key. bytes_eq name key.now) map
 
 -- of the pairs from `low` on the first of a name stands here, or there is none
 abbrev pub IsNextPlace : List Pair → List ℕ → ℕ → Option ℕ → Type 0
@@ -35,10 +29,10 @@ pub record IsIndexed (pairs : List Pair) (low : ℕ) (first : List ℕ → Optio
       (place k : ℕ) (pair : Pair) → low ≤ place → k + (place + 1) ≡ length pairs → pair ≡ get_or pairs place pair →
       IsNextPlace pairs pair.name (place + 1) (get_or next k None)
 
--- What is kept of some pairs is the places of all of them, and the marks of their names.
+-- What is kept of some pairs is the places of all of them.
 pub record IsPlaced (places : Places) : Type 0 where
-  pub indexed : IsIndexed places.pairs.now 0 (place_in places.first) places.next.items
-  pub marked : AreMarked places.pairs.now 0 places.marks.items
+  pub valid : IsNameMap places.first
+  pub indexed : IsIndexed places.pairs.now 0 (value_in places.first) places.next.items
 
 -- What is kept of both lists of pairs is the places of all of them.
 pub record ArePlaced (both : PlacedPairs) : Type 0 where

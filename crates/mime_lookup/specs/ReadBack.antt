@@ -1,7 +1,6 @@
 -- The glob rules of a cache that were read back, and the types of names by them.
-use Rattle.std.specs.Prelude.{◌≡◌, ℕ, List, map, length, bytes_eq}
+use Rattle.std.specs.Prelude.{◌≡◌, ℕ, List, map, length}
 use Rattle.std.specs.Borrow.{Bor}
-use Rattle.std.specs.HashMap.{HashMap, get_by}
 use Rattle.std.specs.Option.{option_map_or}
 use Rattle.mime_base.specs.Cache.Bytes.{Stands}
 use Rattle.mime_base.specs.Database.{PlainDatabase, pairs_of}
@@ -11,26 +10,28 @@ use Rattle.mime_base.specs.Format.Pairs.{PairsAt}
 use Rattle.mime_base.specs.declared.database.rule.GlobRule.{GlobRule}
 use Rattle.mime_lookup.specs.Choice.{kept}
 use Rattle.mime_lookup.specs.Indexed.{unaliased_rule}
+use Rattle.mime_lookup.specs.NameMap.{IsNameMap, value_in}
 use Rattle.mime_lookup.specs.NameTypes.{types_for}
 use Rattle.mime_lookup.specs.Spelling.{SpellsGlobs}
+use Rattle.mime_lookup.specs.declared.name_map.NameMap.{NameMap}
 use Rattle.mime_view.specs.declared.name_hits.NameHits.{NameHits}
 use Rattle.mime_view.specs.declared.name_hits.Which.{Which}
 
 -- the target that a map has for a type, or the type itself
-abbrev pub target_in : {S : Type 0} → HashMap (Bor (List ℕ)) (Bor (List ℕ)) S → List ℕ → List ℕ
-target_in targets kind = option_map_or (λ target. target.now) (get_by (λ key. bytes_eq kind key.now) targets) kind
+abbrev pub target_in : NameMap (Bor (List ℕ)) → List ℕ → List ℕ
+target_in targets kind = option_map_or (λ target. target.now) (value_in targets kind) kind
 
 -- each type goes one alias step by the targets that a map has
-abbrev pub AreTargets : {S : Type 0} → List (List ℕ × List ℕ) → HashMap (Bor (List ℕ)) (Bor (List ℕ)) S → Type 0
+abbrev pub AreTargets : List (List ℕ × List ℕ) → NameMap (Bor (List ℕ)) → Type 0
 AreTargets aliases targets = (kind : List ℕ) → resolved aliases kind ≡ target_in targets kind
 
 -- a rule whose type went one alias step by the targets that a map has
-abbrev pub target_rule : {S : Type 0} → HashMap (Bor (List ℕ)) (Bor (List ℕ)) S → GlobRule → GlobRule
+abbrev pub target_rule : NameMap (Bor (List ℕ)) → GlobRule → GlobRule
 target_rule targets rule =
     record { weight = rule.weight; kind = target_in targets rule.kind; pattern = rule.pattern; cased = rule.cased }
 
 -- Targets are those of the aliases that a cache spells.
-pub record AreTargetsOf {S : Type 0} (c : List ℕ) (targets : HashMap (Bor (List ℕ)) (Bor (List ℕ)) S) : Type 0 where
+pub record AreTargetsOf (c : List ℕ) (targets : NameMap (Bor (List ℕ))) : Type 0 where
   -- Where its parts stand.
   pub offsets : Offsets
   -- Its header says so.
@@ -39,6 +40,8 @@ pub record AreTargetsOf {S : Type 0} (c : List ℕ) (targets : HashMap (Bor (Lis
   pub aliases : List (List ℕ × List ℕ)
   -- They stand there.
   pub stand : PairsAt (Stands c) offsets.aliases aliases
+  -- Its names are found.
+  pub valid : IsNameMap targets
   -- Each type goes one alias step by the targets.
   pub are : AreTargets aliases targets
 

@@ -12,10 +12,10 @@
 //! whole content, of which it reads no more than magic can look at; [`Content`] is what it reads from,
 //! and may tell whether its reads can fail. [`look_up_name`] is a lookup without a content, which says too how much of
 //! one would be read. [`is_a`] and [`icon_of`] go by the same bytes. [`look_up_again`] is the lookup for
-//! many names and contents, over an [`IndexedCache`], and so are [`look_up_name_again`], [`sniff_again`], [`is_a_again`] and
-//! [`icon_again`]. A [`PaidCache`] is read back once its answers have paid for that.
+//! many names and contents, over an [`IndexedCache`], and so are [`look_up_name_again`], [`sniff_again`], [`is_a_again`],
+//! [`icon_again`] and [`hits_again`]. A [`PaidCache`] is read back once its answers have paid for that.
 //! [`look_up_plain`] answers the same by trying every rule, line and pair of a database, and so do [`is_a_plain`] and
-//! [`icon_of_plain`] for one question. [`look_up_indexed`] and [`is_a_indexed`] go by an [`IndexedDatabase`] that is made of
+//! [`icon_of_plain`] for one question. [`look_up_indexed`], [`hits_indexed`] and [`is_a_indexed`] go by an [`IndexedDatabase`] that is made of
 //! one for many questions, and [`icon_of_indexed`] by its [`DatabaseIcons`]. A [`MagicIndex`] is made of the magic that was read
 //! back from a cache.
 //!
@@ -38,13 +38,13 @@ mod checking;
 mod climb;
 mod content;
 mod fixed;
+mod hits;
 mod icon_index;
 mod indexed;
 mod kept;
 mod limits;
 mod lists;
-mod named;
-mod named_pairs;
+mod name_map;
 mod order;
 mod pairs;
 mod places;
@@ -59,11 +59,13 @@ mod subclass;
 
 pub use answer::{Answer, NameAnswer};
 pub use cached::{
-    Icons, IndexedCache, PaidCache, SniffedContent, icon_again, icon_of, is_a, is_a_again,
-    is_below, look_up, look_up_again, look_up_name, look_up_name_again, sniff_again, sniff_alone,
+    Icons, IndexedCache, PaidCache, SniffedContent, hits_again, icon_again, icon_of, is_a,
+    is_a_again, is_below, look_up, look_up_again, look_up_name, look_up_name_again, sniff_again,
+    sniff_alone,
 };
 pub use content::{Content, ReadFault, Untold};
 pub use indexed::IndexedDatabase;
+pub use indexed::hits::hits_indexed;
 pub use indexed::icons::{DatabaseIcons, icon_of_indexed};
 pub use indexed::look_up::look_up_indexed;
 pub use indexed::magic_index::MagicIndex;

@@ -1,19 +1,16 @@
 //! Where the pairs of each name stand, so that a search goes through no other pairs.
 
-pub mod marks;
-
-ghost use Rattle.std.specs.Prelude.{◌≡◌, ◌+◌, ◌<◌, ◌++◌, get_or, length, map, IfOk, OnOk};
+ghost use Rattle.std.specs.Prelude.{◌≡◌, ◌+◌, ◌<◌, ◌++◌, get_or, length, IfOk, OnOk};
 ghost use Rattle.mime_base.specs.Database.{pairs_of, plain_database};
 ghost use Rattle.mime_base.specs.Database.PlainPairs.{plain_pairs};
 ghost use Rattle.mime_base.specs.Database.Subclass as above;
 ghost use Rattle.mime_base.specs.declared.database.pair.Pair as plain;
 ghost use Rattle.mime_base.specs.Database.Subclass.{resolved};
-ghost use Rattle.mime_lookup.specs.Places.{ArePlaced, IsAbove, IsPlaced, place_in, placed};
+ghost use Rattle.mime_lookup.specs.Places.{ArePlaced, IsAbove, IsPlaced, placed};
 
 use crate::climb::Hierarchy;
-use crate::places::marks::{MARKS, mark_of};
+use crate::name_map::{NameMap, new_map, put_value, value_of};
 use crate::queue::Queue;
-use indexmap::IndexMap;
 use mime_base::{Database, OutOfMemory, Pair};
 use std::alloc::Global;
 
@@ -22,10 +19,8 @@ use std::alloc::Global;
 pub struct Places<'a> {
     /// The pairs.
     pub pairs: &'a [Pair],
-    /// Of each mark whether a name has it.
-    pub marks: Vec<bool>,
     /// The first place of each name.
-    pub first: IndexMap<&'a [u8], usize>,
+    pub first: NameMap<'a, usize>,
     /// From the last place to the first, the next place of its name.
     pub next: Vec<Option<usize>>,
 }
@@ -57,24 +52,16 @@ pub fn places_of<'a>(alloc: Global, pairs: &'a [Pair]) -> Result<Places<'a>, Out
     // Each name has its first place, and each place the next of its name.
     ensures indexed { IfOk result IsPlaced }
 {
-    let mut marks = vec![in alloc; false; MARKS]?;
-    let mut first = IndexMap::new(alloc);
-    let mut next = Vec::new(alloc);
+    let mut first = new_map(alloc, pairs.len())?;
+    let mut next = Vec::with_capacity(alloc, pairs.len())?;
     let mut place = pairs.len();
     while place > 0 {
         place -= 1;
         let pair = &pairs[place];
-        let name = pair.name.bytes();
-        marks[mark_of(name)] = true;
-        let later = first.insert(name, place)?;
+        let later = put_value(&mut first, pair.name.bytes(), place)?;
         next.push(later)?;
     }
-    Ok(Places {
-        pairs,
-        marks,
-        first,
-        next,
-    })
+    Ok(Places { pairs, first, next })
 }
 
 /// The places of all pairs of a database.
@@ -92,19 +79,6 @@ pub fn placed_pairs<'a>(
     Ok(PlacedPairs { aliases, parents })
 }
 
-/// The first place of a name, if it has one.
-fn first_of(places: &Places<'_>, name: &[u8]) -> Option<usize>
-    requires placed { IsPlaced places.now }
-    ensures { result ≡ place_in places.now.first name.now }
-{
-    // Most names that have no place have no mark either.
-    if places.marks[mark_of(name)] {
-        places.first.get(name).copied()
-    } else {
-        None
-    }
-}
-
 /// A type after one alias step.
 pub fn unalias_at<'a>(aliases: &Places<'a>, kind: &'a [u8]) -> &'a [u8]
     // The places are those of all pairs.
@@ -112,7 +86,7 @@ pub fn unalias_at<'a>(aliases: &Places<'a>, kind: &'a [u8]) -> &'a [u8]
     // It is the type after one alias step.
     ensures { result.now ≡ resolved (plain_pairs aliases.now.pairs.now) kind.entry.now }
 {
-    match first_of(aliases, kind) {
+    match value_of(&aliases.first, kind) {
         Some(place) => target_at(aliases.pairs, place),
         None => kind,
     }
@@ -136,7 +110,7 @@ fn above_of<'a>(both: &PlacedPairs<'a>, kind: &[u8]) -> Above<'a>
 {
     let parents = &both.parents;
     let pairs = parents.pairs;
-    let Some(place) = first_of(parents, kind) else {
+    let Some(place) = value_of(&parents.first, kind) else {
         return Above::Nothing;
     };
     if parents.next[pairs.len() - 1 - place].is_some() {
@@ -174,7 +148,7 @@ pub fn push_parents<'a>(
 {
     let parents = &both.parents;
     let pairs = parents.pairs;
-    let mut place = first_of(parents, kind);
+    let mut place = value_of(&parents.first, kind);
     while let Some(here) = place {
         let pair = &pairs[here];
         queue.push_back(unalias_at(&both.aliases, pair.target.bytes()))?;

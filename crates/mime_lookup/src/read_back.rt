@@ -1,7 +1,6 @@
 //! Names, subclasses and icons by the parts of a cache that were read back once.
 
 pub mod icons;
-pub mod marked;
 pub mod name_types;
 pub mod names;
 pub mod pairs;

@@ -1,6 +1,5 @@
 -- The lists of a cache that were read back are a database that it spells.
 use Rattle.std.proofs.Common.{◌≡◌, ℕ, List, [], map, arith}
-use Rattle.std.specs.HashMap.{HashMap}
 use Rattle.std.specs.List.{All}
 use Rattle.std.proofs.lemmas.List.Elements.{All-map, All-weaker}
 use denote.Bor.{Bor}
@@ -13,6 +12,8 @@ use Rattle.mime_load.specs.NameLists.{AreNameLists, listed_rules}
 use Rattle.mime_load.specs.declared.name_lists.NameLists.{NameLists}
 use Rattle.mime_lookup.specs.Indexed.{unaliased_rule}
 use Rattle.mime_lookup.specs.ReadBack.{AreRulesReadBack, AreTargets, AreTargetsOf}
+use Rattle.mime_lookup.specs.NameMap.{IsNameMap}
+use Rattle.mime_lookup.specs.declared.name_map.NameMap.{NameMap}
 use Rattle.mime_lookup.specs.Spelling.{SpellsGlobs}
 
 -- their rules and aliases
@@ -53,13 +54,14 @@ module _ (c : List ℕ) (lists : NameLists) (stand : AreNameLists c lists) where
   rules_of_lists rules are = record { database = listed lists; spelled = spelled; are = are }
 
   -- these are the targets of its aliases
-  pub targets_of_lists : {S : Type 0} (targets : HashMap (Bor (List ℕ)) (Bor (List ℕ)) S)
+  pub targets_of_lists : (targets : NameMap (Bor (List ℕ))) → IsNameMap targets
       → AreTargets (plain_pairs lists.aliases.items) targets
       → AreTargetsOf c targets
-  targets_of_lists targets are = record {
+  targets_of_lists targets valid are = record {
     offsets = stand.offsets;
     header = stand.header;
     aliases = plain_pairs lists.aliases.items;
     stand = stand.aliases;
+    valid = valid;
     are = are;
   }

@@ -1,20 +1,18 @@
 -- What is one step above the types of a cache: one pair more, and the steps of what the cache spells.
-use Rattle.std.proofs.Common.{◌≡◌, ℕ, ◌+◌, ◌<◌, Bool, true, false, cond, List, [], ◌∷◌, length, get_or, map, drop, Option, Some}
+use Rattle.std.proofs.Common.{◌≡◌, ℕ, ◌+◌, ◌<◌, Bool, true, false, cond, List, ◌∷◌, length, get_or, map, drop, Option, Some}
 use Rattle.std.proofs.Common.{refl, sym, ap, ap₂, subst, ◌∙◌, bytes_eq, add-one}
-use Rattle.std.specs.HashMap.{HashMap}
 use Rattle.std.specs.Map.{update}
 use Rattle.std.specs.Option.{option_map_or}
 use Rattle.std.proofs.Math.Seq.{drop-cons}
 use Rattle.std.proofs.lemmas.Slice.Eq.{bytes_eq-Decides}
-use denote.Bor.{Bor}
 use Rattle.mime_base.specs.Database.{PlainDatabase, pairs_of}
 use Rattle.mime_base.specs.Database.Subclass.{above, parents}
 use Rattle.mime_load.specs.Lent.{plain_pairs}
 use Rattle.mime_load.specs.declared.pair.LentPair.{LentPair}
-use Rattle.mime_lookup.specs.Marks.{mark}
 use Rattle.mime_lookup.specs.PairsReadBack.{AreStepsOf, step_in}
 use Rattle.mime_lookup.specs.Places.{IsAbove}
 use Rattle.mime_lookup.specs.Spelling.{SpellsPairs}
+use Rattle.mime_lookup.specs.declared.name_map.NameMap.{NameMap}
 use Rattle.mime_lookup.specs.declared.places.Above.{Above}
 use Rattle.mime_lookup.specs.declared.places.Above.TheVariants.{Nothing}
 use Rattle.mime_lookup.proofs.SpellingLemmas.Parents.{above_once}
@@ -50,14 +48,10 @@ steps-more step pairs low pair kind before with_it within is more rest =
         (sym ((bytes_eq-Decides pair.name.now kind).0 same)) (rest kind))
     by_test false same = rest kind
 
-module _ {S : Type 0} (c : List ℕ) (marks : List Bool) (steps : HashMap (Bor (List ℕ)) Above S) (of_cache : AreStepsOf c marks steps)
+module _ (c : List ℕ) (steps : NameMap Above) (of_cache : AreStepsOf c steps)
     (b : PlainDatabase) (spells : SpellsPairs c b) (kind : List ℕ) where
   -- the steps of a cache are those of each database that it spells
   pub steps_spelled : IsAbove (above (pairs_of b) kind) (step_in steps kind)
   steps_spelled =
       subst (λ (kinds : List (List ℕ)). IsAbove kinds (step_in steps kind)) (above_once c of_cache.database b of_cache.spelled spells kind)
       (of_cache.are kind)
-
-  -- in none of them anything is above a type without its mark
-  pub none_spelled : get_or marks (mark kind) false ≡ false → above (pairs_of b) kind ≡ []
-  none_spelled none = above_once c b of_cache.database spells of_cache.spelled kind ∙ of_cache.others.are kind none

@@ -1,6 +1,5 @@
 -- An alias step by the targets of the aliases that a cache spells.
 use Rattle.std.proofs.Common.{◌≡◌, ◌⊎◌, ℕ, Bool, true, false, cond, List, [], ◌∷◌, refl, sym, subst, inl, inr, ◌∙◌, bytes_eq}
-use Rattle.std.specs.HashMap.{HashMap}
 use Rattle.std.specs.List.{All}
 use Rattle.std.proofs.lemmas.List.Elements.{All-head, All-tail}
 use denote.Bor.{Bor}
@@ -12,6 +11,7 @@ use Rattle.mime_base.specs.Format.Records.{ListAt}
 use Rattle.mime_load.proofs.NextRecords.{list_inside, pair_long}
 use Rattle.mime_lookup.specs.Cached.{IsCacheText}
 use Rattle.mime_lookup.specs.ReadBack.{AreTargetsOf, target_in}
+use Rattle.mime_lookup.specs.declared.name_map.NameMap.{NameMap}
 use Rattle.mime_lookup.proofs.SpellingLemmas.Aliases.{resolved_once}
 use Rattle.mime_lookup.proofs.SpellingLemmas.Records.{same_offsets}
 use Rattle.mime_lookup.proofs.SpellingLemmas.RuleKinds.{targets_texts}
@@ -40,7 +40,7 @@ pub pairs_inside : (c : List ℕ) (at : ℕ) (entries : List (List ℕ × List �
 pairs_inside c at entries stand =
     rw (count_read c 8 (IsPair (Stands c)) at entries stand) (list_inside c 8 (IsPair (Stands c)) (pair_long c) at entries stand)
 
-module _ {S : Type 0} (c : List ℕ) (targets : HashMap (Bor (List ℕ)) (Bor (List ℕ)) S) (of_cache : AreTargetsOf c targets) where
+module _ (c : List ℕ) (targets : NameMap (Bor (List ℕ))) (of_cache : AreTargetsOf c targets) where
   -- it is that of any aliases that the cache spells
   pub target-resolved : (offsets : Offsets) (pairs : List (List ℕ × List ℕ)) → HeaderAt (Stands c) offsets
       → PairsAt (Stands c) offsets.aliases pairs → (kind : List ℕ) → target_in targets kind ≡ resolved pairs kind

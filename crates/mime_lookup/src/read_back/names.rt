@@ -12,10 +12,10 @@ ghost use Rattle.mime_lookup.specs.ReadBack.{AreTypesOf};
 ghost use Rattle.mime_lookup.specs.Spelling.{SpellsGlobs};
 ghost use Rattle.mime_view.specs.Pairs.{IsUnaliased};
 
+use crate::name_map::NameMap;
 use crate::read_back::rules::unaliased_rules;
 use crate::read_back::spelled_once::spelled_once;
 use crate::read_back::targets::{target_of, targets_of};
-use indexmap::IndexMap;
 use mime_base::{Counted, Meter, OutOfMemory};
 use mime_load::NameLists;
 use mime_names::{NameIndex, candidate_kinds, kept_kinds};
@@ -36,7 +36,7 @@ pub struct IndexedNames<'a> {
     /// The index of its rules, each with its type after one alias step.
     index: NameIndex<'a>,
     /// The target of each of its aliases.
-    targets: IndexMap<&'a [u8], &'a [u8]>,
+    targets: NameMap<'a, &'a [u8]>,
 }
 
 impl<'a> Model for IndexedNames<'a> {

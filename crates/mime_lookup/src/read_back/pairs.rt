@@ -9,11 +9,10 @@ ghost use Rattle.mime_load.specs.PairLists.{ArePairLists};
 ghost use Rattle.mime_view.specs.Pairs.{IsUnaliased};
 
 use crate::climb::Hierarchy;
+use crate::name_map::NameMap;
 use crate::places::Above;
-use crate::read_back::marked::{is_marked, marks_of};
 use crate::read_back::steps::{step_of, steps_of};
 use crate::read_back::targets::{target_of, targets_of};
-use indexmap::IndexMap;
 use mime_base::{Counted, OutOfMemory};
 use mime_load::PairLists;
 use std::alloc::Global;
@@ -24,28 +23,22 @@ use std::marker::Model;
 pub struct IndexedPairs<'a> {
     /// The bytes of the cache.
     counted: Counted<'a>,
-    /// Of each mark whether an alias has it.
-    aliases: Vec<bool>,
     /// The target of each of its aliases.
-    targets: IndexMap<&'a [u8], &'a [u8]>,
-    /// Of each mark whether a type that has a parent has it.
-    children: Vec<bool>,
+    targets: NameMap<'a, &'a [u8]>,
     /// What is one step above each type that has a parent.
-    steps: IndexMap<&'a [u8], Above<'a>>,
+    steps: NameMap<'a, Above<'a>>,
 }
 
 impl<'a> Model for IndexedPairs<'a> {
-    ghost use Rattle.std.specs.Prelude.{◌≡◌, ℕ, List};
-    ghost use Rattle.mime_lookup.specs.PairsReadBack.{AreStepsOf, Unmarked};
-    ghost use Rattle.mime_lookup.specs.ReadBack.{AreTargetsOf, target_in};
+    ghost use Rattle.std.specs.Prelude.{ℕ, List};
+    ghost use Rattle.mime_lookup.specs.PairsReadBack.{AreStepsOf};
+    ghost use Rattle.mime_lookup.specs.ReadBack.{AreTargetsOf};
 
     ghost Value = { List ℕ };
 
     ghost view = { λ pairs. pairs.counted };
 
-    ghost invariant = { λ pairs. AreTargetsOf pairs.counted pairs.targets
-        × AreStepsOf pairs.counted pairs.children.items pairs.steps
-        × Unmarked (λ kind. target_in pairs.targets kind ≡ kind) pairs.aliases.items };
+    ghost invariant = { λ pairs. AreTargetsOf pairs.counted pairs.targets × AreStepsOf pairs.counted pairs.steps };
 }
 
 impl<'a> IndexedPairs<'a> {
@@ -60,15 +53,11 @@ impl<'a> IndexedPairs<'a> {
         // It is an index over this cache.
         ensures { IfOk result (λ pairs. pairs ≡ counted.entry) }
     {
-        let aliases = marks_of(alloc, &lists.aliases)?;
         let targets = targets_of(alloc, &lists.aliases)?;
-        let children = marks_of(alloc, &lists.parents)?;
         let steps = steps_of(alloc, &lists.parents, &targets)?;
         Ok(IndexedPairs {
             counted,
-            aliases,
             targets,
-            children,
             steps,
         })
     }
@@ -83,11 +72,7 @@ impl<'a> IndexedPairs<'a> {
         // The list of aliases lies in the cache, and it is the type itself or a text of the cache.
         ensures given { IsUnaliased self.now (field self.now 0 1) kind.now result.now }
     {
-        if is_marked(&self.aliases, kind) {
-            target_of(&self.targets, kind)
-        } else {
-            kind
-        }
+        target_of(&self.targets, kind)
     }
 }
 
@@ -101,10 +86,6 @@ impl<'a> Hierarchy<'a> for IndexedPairs<'a> {
     ghost is_of = { λ pairs plain. (b : PlainDatabase) × SpellsPairs pairs b × (plain ≡ pairs_of b) };
 
     fn above(&self, kind: &[u8]) -> Above<'a> {
-        if is_marked(&self.children, kind) {
-            step_of(&self.steps, kind)
-        } else {
-            Above::Nothing
-        }
+        step_of(&self.steps, kind)
     }
 }

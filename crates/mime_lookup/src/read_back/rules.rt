@@ -3,11 +3,12 @@
 ghost use Rattle.std.specs.Prelude.{◌≡◌, ◌++◌, map, IfOk, OnOk};
 ghost use Rattle.mime_load.specs.Lent.{plain_leaves, plain_rules};
 ghost use Rattle.mime_load.specs.NameLists.{listed_rules};
+ghost use Rattle.mime_lookup.specs.NameMap.{IsNameMap};
 ghost use Rattle.mime_lookup.specs.ReadBack.{target_rule};
 ghost use Rattle.mime_names.specs.Rules.{plain_named};
 
+use crate::name_map::NameMap;
 use crate::read_back::targets::target_of;
-use indexmap::IndexMap;
 use mime_base::{LentRule, OutOfMemory};
 use mime_load::{LeafRule, NameLists};
 use mime_names::NamedRule;
@@ -17,8 +18,10 @@ use std::alloc::Global;
 pub fn unaliased_rules<'p, 'a>(
     alloc: Global,
     lists: &'p NameLists<'a>,
-    targets: &IndexMap<&'a [u8], &'a [u8]>,
+    targets: &NameMap<'a, &'a [u8]>,
 ) -> Result<Vec<NamedRule<'p, 'a>>, OutOfMemory>
+    // The names of the targets are found.
+    requires { IsNameMap targets.now }
     // They are those of the literal list, of the tree and of the glob list, but each type went one alias step.
     ensures { IfOk result (λ rules. map plain_named rules.items
         ≡ map (target_rule targets.now) (listed_rules lists.entry.now)) }
@@ -33,9 +36,10 @@ pub fn unaliased_rules<'p, 'a>(
 /// Puts rules at the end of others, each with its type after one alias step.
 fn push_rules<'p, 'a>(
     listed: &'p [LentRule<'a>],
-    targets: &IndexMap<&'a [u8], &'a [u8]>,
+    targets: &NameMap<'a, &'a [u8]>,
     rules: &mut Vec<NamedRule<'p, 'a>>,
 ) -> Result<(), OutOfMemory>
+    requires { IsNameMap targets.now }
     ensures { OnOk result (map plain_named rules.new.items
         ≡ map plain_named rules.old.items ++ map (target_rule targets.now) (plain_rules listed.entry.now)) }
 {
@@ -53,9 +57,10 @@ fn push_rules<'p, 'a>(
 /// Puts rules of the tree at the end of others, each with its type after one alias step.
 fn push_leaves<'p, 'a>(
     leaves: &'p [LeafRule<'a>],
-    targets: &IndexMap<&'a [u8], &'a [u8]>,
+    targets: &NameMap<'a, &'a [u8]>,
     rules: &mut Vec<NamedRule<'p, 'a>>,
 ) -> Result<(), OutOfMemory>
+    requires { IsNameMap targets.now }
     ensures { OnOk result (map plain_named rules.new.items
         ≡ map plain_named rules.old.items ++ map (target_rule targets.now) (plain_leaves leaves.entry.now)) }
 {

@@ -11,30 +11,30 @@ pub returns-in_default : goal.returns-in_default
 unfolding above
 returns-in_default c =
     ap (map (resolved (plain_pairs c.args.both.now.aliases.pairs.now)))
-    (subst (IsNextPlace c.args.both.now.parents.pairs.now c.args.kind.now 0) (sym c.first_of.ensures ∙ c.in_default.is)
+    (subst (IsNextPlace c.args.both.now.parents.pairs.now c.args.kind.now 0) (sym c.value_of.ensures ∙ c.in_default.is)
     (c.requires.placed.parents.indexed.firsts c.args.kind.now))
 
 pub overflow_sub-pairs : goal.overflow_sub-pairs
 overflow_sub-pairs c =
-    let at = subst (IsNextPlace c.args.both.now.parents.pairs.now c.args.kind.now 0) (sym c.first_of.ensures ∙ c.in-Some.is)
+    let at = subst (IsNextPlace c.args.both.now.parents.pairs.now c.args.kind.now 0) (sym c.value_of.ensures ∙ c.in-Some.is)
     (c.requires.placed.parents.indexed.firsts c.args.kind.now) in
     omega (arith, at.1)
 
 pub overflow_sub-pairs-2 : goal.overflow_sub-pairs-2
 overflow_sub-pairs-2 c =
-    let at = subst (IsNextPlace c.args.both.now.parents.pairs.now c.args.kind.now 0) (sym c.first_of.ensures ∙ c.in-Some.is)
+    let at = subst (IsNextPlace c.args.both.now.parents.pairs.now c.args.kind.now 0) (sym c.value_of.ensures ∙ c.in-Some.is)
     (c.requires.placed.parents.indexed.firsts c.args.kind.now) in
     omega (arith, at.1)
 
 pub index-requires : goal.index-requires
 index-requires c =
-    let at = subst (IsNextPlace c.args.both.now.parents.pairs.now c.args.kind.now 0) (sym c.first_of.ensures ∙ c.in-Some.is)
+    let at = subst (IsNextPlace c.args.both.now.parents.pairs.now c.args.kind.now 0) (sym c.value_of.ensures ∙ c.in-Some.is)
     (c.requires.placed.parents.indexed.firsts c.args.kind.now) in
     omega (arith, at.1, c.requires.placed.parents.indexed.size, c.args.both.now.parents.next.ok.0)
 
 pub target_at-requires : goal.target_at-requires
 target_at-requires c =
-    let at = subst (IsNextPlace c.args.both.now.parents.pairs.now c.args.kind.now 0) (sym c.first_of.ensures ∙ c.in-Some.is)
+    let at = subst (IsNextPlace c.args.both.now.parents.pairs.now c.args.kind.now 0) (sym c.value_of.ensures ∙ c.in-Some.is)
     (c.requires.placed.parents.indexed.firsts c.args.kind.now) in
     record { within = at.1 }
 
@@ -45,7 +45,7 @@ returns c =
     let next = c.args.both.now.parents.next.items in
     let place = c.in-Some.place in
     let k = length pairs - 1 - place in
-    let at = subst (IsNextPlace pairs c.args.kind.now 0) (sym c.first_of.ensures ∙ c.in-Some.is)
+    let at = subst (IsNextPlace pairs c.args.kind.now 0) (sym c.value_of.ensures ∙ c.in-Some.is)
     (c.requires.placed.parents.indexed.firsts c.args.kind.now) in
     let inside : k < length next = omega (arith, at.1, c.requires.placed.parents.indexed.size) in
     let size : k + (place + 1) ≡ length pairs = omega (arith, at.1) in

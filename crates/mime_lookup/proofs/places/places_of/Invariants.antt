@@ -1,13 +1,13 @@
 use Rattle.std.proofs.Common.{◌≤◌, length}
-use Rattle.mime_lookup.specs.Marks.{AreMarked}
-use Rattle.mime_lookup.specs.Places.{IsIndexed, place_in}
+use Rattle.mime_lookup.specs.NameMap.{IsNameMap, value_in}
+use Rattle.mime_lookup.specs.Places.{IsIndexed}
 use Rattle.mime_lookup.proofs.places.places_of.Given as goal
 
 abbrev pub invariant-loop-place : goal.invariant-loop-place
 invariant-loop-place l = record {
   within : l.place ≤ length l.pairs;
-  marked : AreMarked l.pairs l.place l.marks.items;
-  so_far : IsIndexed l.pairs l.place (place_in l.first) l.next.items;
+  valid : IsNameMap l.first;
+  so_far : IsIndexed l.pairs l.place (value_in l.first) l.next.items;
 }
 
 abbrev pub decreases-loop-place : goal.decreases-loop-place

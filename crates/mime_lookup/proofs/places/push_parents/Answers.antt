@@ -2,15 +2,16 @@ use Rattle.std.proofs.Common.{◌≡◌, ◌+◌, ◌-◌, ◌<◌, ◌∙◌, �
 use Rattle.std.proofs.lemmas.List.{get_or_default}
 use Rattle.mime_base.specs.Database.PlainPairs.{plain_pairs}
 use Rattle.mime_base.specs.Database.Subclass.{above, resolved}
-use Rattle.mime_lookup.specs.Places.{IsNextPlace, place_in}
+use Rattle.mime_lookup.specs.Places.{IsNextPlace}
+use Rattle.mime_lookup.specs.NameMap.{value_in}
 use Rattle.mime_lookup.proofs.AncestryLemmas.Walks.{Walked, places_left-falls, walked-all, walked-first, walked-length, walked-more}
 use Rattle.mime_lookup.proofs.places.push_parents.Goals as goal
 
 pub loop-place-init : goal.loop-place-init
 loop-place-init c =
     walked-first c.args.both.now.parents.pairs.now (resolved (plain_pairs c.args.both.now.aliases.pairs.now)) c.args.kind.now
-    c.args.queue.now c.first_of-place.result
-    (subst (IsNextPlace c.args.both.now.parents.pairs.now c.args.kind.now 0) (sym c.first_of-place.ensures)
+    c.args.queue.now c.value_of-place.result
+    (subst (IsNextPlace c.args.both.now.parents.pairs.now c.args.kind.now 0) (sym c.value_of-place.ensures)
     (c.requires.placed.parents.indexed.firsts c.args.kind.now))
 
 pub bounds-pairs-here : goal.bounds-pairs-here
@@ -56,7 +57,7 @@ loop-place-preserved c =
     (subst (λ place. Walked pairs step c.args.kind.now place (c.loop-place.queue ++ c.unalias_at.result.now ∷ []) c.args.queue.now)
     (sym value)
     (walked-more pairs step c.args.kind.now c.args.queue.now here c.index-pairs-here.result c.index-pairs-here.is c.loop-place.queue
-    c.unalias_at.result.now (place_in c.args.both.now.parents.first) next k at c.requires.placed.parents.indexed size
+    c.unalias_at.result.now (value_in c.args.both.now.parents.first) next k at c.requires.placed.parents.indexed size
     (c.unalias_at.ensures ∙ ap step c.bytes.ensures.text)))
 
 pub returns-clause-queue : goal.returns-clause-queue

@@ -4,8 +4,8 @@ use Rattle.mime_lookup.proofs.read_back.targets.target_of.Goals as goal
 
 pub returns-in-Some : goal.returns-in-Some
 returns-in-Some c =
-    sym (ap (λ found. found_target found c.args.kind.now) (sym (c.copied.ensures ∙ c.get.ensures.value) ∙ c.in-Some.is))
+    sym (ap (λ found. found_target found c.args.kind.now) (sym (c.value_of.ensures) ∙ c.in-Some.is))
 
 pub returns-in-None : goal.returns-in-None
 returns-in-None c =
-    sym (ap (λ found. found_target found c.args.kind.now) (sym (c.copied.ensures ∙ c.get.ensures.value) ∙ c.in-None.is))
+    sym (ap (λ found. found_target found c.args.kind.now) (sym (c.value_of.ensures) ∙ c.in-None.is))

@@ -15,7 +15,7 @@ new-requires c =
     let lists = c.args.lists.now in
     let targets = c.in_ok-targets.targets in
     let are : AreTargets (plain_pairs lists.aliases.items) targets =
-    subst (λ (pairs : List LentPair). AreTargets (plain_pairs pairs) targets) c.deref.ensures.value c.in_ok-targets.ensures in
+    subst (λ (pairs : List LentPair). AreTargets (plain_pairs pairs) targets) c.deref.ensures.value c.in_ok-targets.ensures.are in
     subst (All FitsRank)
     (sym (ap (map plain_named) c.deref-2.ensures.value ∙ c.in_ok-rules.ensures
     ∙ rules_by_targets (plain_pairs lists.aliases.items) targets are (listed_rules lists)))
@@ -26,9 +26,9 @@ invariant_of-result c =
     let lists = c.args.lists.now in
     let targets = c.in_ok-targets.targets in
     let are : AreTargets (plain_pairs lists.aliases.items) targets =
-    subst (λ (pairs : List LentPair). AreTargets (plain_pairs pairs) targets) c.deref.ensures.value c.in_ok-targets.ensures in (
+    subst (λ (pairs : List LentPair). AreTargets (plain_pairs pairs) targets) c.deref.ensures.value c.in_ok-targets.ensures.are in (
       rules_of_lists c.args.counted lists c.requires c.in_ok-index.index
           (c.in_ok-index.ensures ∙ ap (map plain_named) c.deref-2.ensures.value ∙ c.in_ok-rules.ensures
           ∙ rules_by_targets (plain_pairs lists.aliases.items) targets are (listed_rules lists)),
-      targets_of_lists c.args.counted lists c.requires targets are,
+      targets_of_lists c.args.counted lists c.requires targets c.in_ok-targets.ensures.valid are,
     )

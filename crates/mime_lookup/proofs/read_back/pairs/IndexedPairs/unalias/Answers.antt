@@ -5,32 +5,16 @@ use Rattle.mime_lookup.proofs.SpellingLemmas.TargetSteps.{target-resolved, targe
 use Rattle.mime_view.specs.Pairs.{IsUnaliased}
 use Rattle.mime_lookup.proofs.read_back.pairs.IndexedPairs.unalias.Goals as goal
 
-pub returns-then-is_marked-clause-answer : goal.returns-then-is_marked-clause-answer
-returns-then-is_marked-clause-answer c offsets pairs header stand =
+pub returns-clause-answer : goal.returns-clause-answer
+returns-clause-answer c offsets pairs header stand =
     let cache = c.args.self.now in
     let targets = c.self.inside.targets in
     let of_cache : AreTargetsOf cache targets = subst (λ (bytes : List ℕ). AreTargetsOf bytes targets) c.self.view_is c.self.invariant.0 in
     c.target_of.ensures ∙ target-resolved cache targets of_cache offsets pairs header stand c.args.kind.now
 
-pub returns-then-is_marked-clause-given : goal.returns-then-is_marked-clause-given
-returns-then-is_marked-clause-given c =
+pub returns-clause-given : goal.returns-clause-given
+returns-clause-given c =
     let cache = c.args.self.now in
     let targets = c.self.inside.targets in
     let of_cache : AreTargetsOf cache targets = subst (λ (bytes : List ℕ). AreTargetsOf bytes targets) c.self.view_is c.self.invariant.0 in
     subst (IsUnaliased cache (field cache 0 1) c.args.kind.now) (sym c.target_of.ensures) (target_given cache targets of_cache c.args.kind.now)
-
-pub returns-else-is_marked-clause-answer : goal.returns-else-is_marked-clause-answer
-returns-else-is_marked-clause-answer c offsets pairs header stand =
-    let cache = c.args.self.now in
-    let targets = c.self.inside.targets in
-    let of_cache : AreTargetsOf cache targets = subst (λ (bytes : List ℕ). AreTargetsOf bytes targets) c.self.view_is c.self.invariant.0 in
-    let none = c.self.invariant.2.are c.args.kind.now (rw c.deref.ensures.value at (sym c.is_marked.ensures ∙ c.if-is_marked.false)) in
-    sym none ∙ target-resolved cache targets of_cache offsets pairs header stand c.args.kind.now
-
-pub returns-else-is_marked-clause-given : goal.returns-else-is_marked-clause-given
-returns-else-is_marked-clause-given c =
-    let cache = c.args.self.now in
-    let targets = c.self.inside.targets in
-    let of_cache : AreTargetsOf cache targets = subst (λ (bytes : List ℕ). AreTargetsOf bytes targets) c.self.view_is c.self.invariant.0 in
-    let none = c.self.invariant.2.are c.args.kind.now (rw c.deref.ensures.value at (sym c.is_marked.ensures ∙ c.if-is_marked.false)) in
-    subst (IsUnaliased cache (field cache 0 1) c.args.kind.now) none (target_given cache targets of_cache c.args.kind.now)

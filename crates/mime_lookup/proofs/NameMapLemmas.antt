@@ -1,0 +1,4 @@
+-- Values by names.
+pub mod Items
+pub mod Added
+pub mod Changed
