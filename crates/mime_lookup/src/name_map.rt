@@ -73,6 +73,7 @@ fn entry_at<'b, 'a, V: Copy>(map: &'b NameMap<'a, V>, number: usize) -> Option<&
 }
 
 /// The value of a name, if it has one.
+#[inline]
 pub fn value_of<V: Copy>(map: &NameMap<'_, V>, name: &[u8]) -> Option<V>
     // It is a map.
     requires { IsNameMap map.now }

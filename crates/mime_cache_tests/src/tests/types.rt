@@ -218,9 +218,9 @@ fn subclasses_by_damaged_caches(rt: HostRuntime) -> Result<(), Fail> {
 /// A chain of more steps than are made without marks, a type of two parents, two types that are each above the other, aliases, and
 /// names that are found by one mark: those of `m` and their aliases.
 const SUBCLASSES: Texts<'static> = Texts {
-    aliases: b"x/1st m/1st\nx/2st m/2st\nx/first c/0\nx/third c/2\n",
+    aliases: b"x/1last m/1last\nx/2last m/2last\nx/first c/0\nx/third c/2\n",
     subclasses: b"c/0 c/1\nc/1 c/2\nc/2 c/3\nc/3 c/4\nc/4 c/5\nc/5 c/6\nc/6 c/7\nc/7 c/8\nc/8 c/9\nc/9 c/10\nc/10 c/11\nc/11 c/12\nc/12 c/13\nc/13 c/14\nc/14 c/15\nc/15 c/16\nc/16 c/17\nc/17 c/18\n\
-d/bottom d/left\nd/bottom d/right\nd/right d/top\nl/a l/b\nl/b l/a\nm/1st m/top\nm/2st m/side\nm/2st m/top\n",
+d/bottom d/left\nd/bottom d/right\nd/right d/top\nl/a l/b\nl/b l/a\nm/1last m/top\nm/2last m/side\nm/2last m/top\n",
     ..EMPTY
 };
 
@@ -283,14 +283,14 @@ static SUBCLASS_ROWS: [(&[u8], &[u8], bool); 26] = [
     (b"d/left", b"d/top", false),
     (b"l/a", b"l/b", true),
     (b"l/a", b"l/c", false),
-    (b"m/1st", b"m/top", true),
-    (b"m/1st", b"m/side", false),
-    (b"m/2st", b"m/side", true),
-    (b"m/2st", b"m/top", true),
-    (b"m/3st", b"m/top", false),
-    (b"x/1st", b"m/top", true),
-    (b"x/2st", b"m/side", true),
-    (b"x/3st", b"m/top", false),
+    (b"m/1last", b"m/top", true),
+    (b"m/1last", b"m/side", false),
+    (b"m/2last", b"m/side", true),
+    (b"m/2last", b"m/top", true),
+    (b"m/3last", b"m/top", false),
+    (b"x/1last", b"m/top", true),
+    (b"x/2last", b"m/side", true),
+    (b"x/3last", b"m/top", false),
     (b"text/x", b"text/plain", true),
     (b"inode/x", b"application/octet-stream", false),
 ];

@@ -1,4 +1,4 @@
-//! Marks of names: a few bits of them, by which most names that aren't in a table are told from those that are.
+//! Marks of names: a number of their last bytes and their length, by which most names are told from all others.
 
 ghost use Rattle.std.specs.Prelude.{◌≡◌, ◌<◌};
 ghost use Rattle.mime_lookup.specs.Marks.{mark};
@@ -15,10 +15,13 @@ pub fn mark_of(name: &[u8]) -> usize
     // It is one of these.
     ensures within { result < 16384 }
 {
-    if name.len() < 2 {
+    let size = name.len();
+    if size < 4 {
         return 0;
     }
-    let last = usize::from(name[name.len() - 1] % 32);
-    let before = usize::from(name[name.len() - 2] % 32);
-    (before * 32 + last) * 16 + name.len() % 16
+    let fourth = usize::from(name[size - 4]);
+    let third = usize::from(name[size - 3]);
+    let second = usize::from(name[size - 2]);
+    let last = usize::from(name[size - 1]);
+    (((fourth * 31 + third) * 31 + second) * 31 + last + size % 256 * 7) % 16384
 }

@@ -26,7 +26,8 @@ pub fn unaliased_rules<'p, 'a>(
     ensures { IfOk result (λ rules. map plain_named rules.items
         ≡ map (target_rule targets.now) (listed_rules lists.entry.now)) }
 {
-    let mut rules = Vec::new(alloc);
+    let listed = lists.literals.len().saturating_add(lists.globs.len());
+    let mut rules = Vec::with_capacity(alloc, listed.saturating_add(lists.leaves.len()))?;
     push_rules(&lists.literals, targets, &mut rules)?;
     push_leaves(&lists.leaves, targets, &mut rules)?;
     push_rules(&lists.globs, targets, &mut rules)?;
