@@ -2,11 +2,14 @@ pub mod AddedLines
 pub mod AddedSections
 pub mod EndedPaths
 pub mod EndedTrees
+pub mod EndingLemmas
 pub mod Extents
 pub mod FlatLines
 pub mod HoldingLines
 pub mod JoinedLines
 pub mod JoinedRules
+pub mod LeafEntries
+pub mod LeafLoops
 pub mod LineLemmas
 pub mod LinesRead
 pub mod MagicAlone

@@ -10,13 +10,13 @@ use Rattle.mime_base.specs.Format.Pairs.{PairsAt}
 use Rattle.mime_base.specs.Format.Parents.{ParentsAt}
 use Rattle.mime_base.specs.Format.SuffixTree.{tree_size}
 use Rattle.mime_base.specs.declared.database.lent.LentRule.{LentRule}
+use Rattle.mime_base.specs.declared.database.rule.GlobRule.{GlobRule}
 use Rattle.mime_load.specs.FirstUnread.{IsFirstUnread, PartStands, PartsStand, StopsAt, before}
-use Rattle.mime_load.specs.Lent.{plain_leaves, plain_magic, plain_pair, plain_pairs, plain_rules}
+use Rattle.mime_load.specs.Lent.{plain_magic, plain_pair, plain_pairs, plain_rules}
 use Rattle.mime_load.specs.MagicStanding.{MagicStands}
 use Rattle.mime_load.specs.Parts.{IsGlobList, IsLiteralList, IsTreeList}
 use Rattle.mime_load.specs.Taking.{TakesSections}
 use Rattle.mime_load.specs.Whole.{IsHeader}
-use Rattle.mime_load.specs.declared.leaf.LeafRule.{LeafRule}
 use Rattle.mime_load.specs.declared.pair.LentPair.{LentPair}
 use Rattle.mime_load.specs.declared.part.LoadFault.{LoadFault}
 use Rattle.mime_load.specs.declared.part.LoadFault.TheVariants as load
@@ -81,10 +81,10 @@ module _ (c numbers : List ℕ) (old new : ℕ) where
       goes_on c numbers Literals Suffixes old new refl reached (plain_rules items, stand, omega (arith, taken, length-map items plain_rule))
 
   -- a tree
-  pub after_leaves : (items : List LeafRule) → Reaches c numbers Suffixes old
-      → IsTreeList c (slice_index numbers 4) (plain_leaves items) → new + 12 * tree_size (plain_leaves items) ≡ old
+  pub after_leaves : (rules : List GlobRule) → Reaches c numbers Suffixes old
+      → IsTreeList c (slice_index numbers 4) rules → new + 12 * tree_size rules ≡ old
       → Reaches c numbers Globs new
-  after_leaves items reached stand taken = goes_on c numbers Suffixes Globs old new refl reached (plain_leaves items, stand, taken)
+  after_leaves rules reached stand taken = goes_on c numbers Suffixes Globs old new refl reached (rules, stand, taken)
 
   -- globs
   pub after_globs : (items : List LentRule) → Reaches c numbers Globs old

@@ -5,9 +5,8 @@ use Rattle.mime_base.specs.Database.Lent.{plain_rule}
 use Rattle.mime_base.specs.Format.SuffixTree.{tree_size}
 use Rattle.mime_base.specs.declared.database.lent.LentRule.{LentRule}
 use Rattle.mime_base.specs.declared.database.rule.GlobRule.{GlobRule}
-use Rattle.mime_load.specs.Lent.{plain_leaves, plain_rules}
+use Rattle.mime_load.specs.Lent.{plain_rules}
 use Rattle.mime_load.specs.Parts.{IsLiteralList, IsTreeList}
-use Rattle.mime_load.specs.declared.leaf.LeafRule.{LeafRule}
 use Rattle.mime_load.proofs.RuleEntries.{same_literals_count}
 use Rattle.mime_load.proofs.SiblingCounts.{same_tree_size}
 
@@ -19,7 +18,7 @@ module _ (c : List ℕ) (at old new : ℕ) where
       omega (arith, taken, length-map items plain_rule, same_literals_count c at (plain_rules items) rules read stand)
 
   -- after a tree
-  pub leaves_left : (items : List LeafRule) (rules : List GlobRule) → IsTreeList c at (plain_leaves items) → IsTreeList c at rules
-      → new + 12 * tree_size (plain_leaves items) ≡ old → new + 12 * tree_size rules ≡ old
+  pub leaves_left : (items rules : List GlobRule) → IsTreeList c at items → IsTreeList c at rules
+      → new + 12 * tree_size items ≡ old → new + 12 * tree_size rules ≡ old
   leaves_left items rules read stand taken =
-      omega (arith, taken, same_tree_size c at (plain_leaves items) rules read.stand stand.stand)
+      omega (arith, taken, same_tree_size c at items rules read.stand stand.stand)

@@ -10,7 +10,7 @@ use Rattle.mime_base.specs.Format.Parents.{ParentsAt}
 use Rattle.mime_base.specs.Format.Records.{CardsAt}
 use Rattle.mime_base.specs.Format.Spells.{Spells}
 use Rattle.mime_base.specs.declared.database.rule.GlobRule.{GlobRule}
-use Rattle.mime_load.specs.Lent.{plain_leaves, plain_lists, plain_magic, plain_pair, plain_pairs, plain_rules}
+use Rattle.mime_load.specs.Lent.{plain_lists, plain_magic, plain_pair, plain_pairs, plain_rules}
 use Rattle.mime_load.specs.MagicStanding.{MagicStands}
 use Rattle.mime_load.specs.Parts.{IsGlobList, IsLiteralList, IsTreeList}
 use Rattle.mime_load.specs.Whole.{AreLists, IsHeader}
@@ -64,20 +64,20 @@ module _ (c numbers : List ℕ) (b : Lists) (header : IsHeader c numbers)
     (aliases : PairsAt (Stands c) (slice_index numbers 1) (plain_pairs b.aliases.items))
     (parents : ParentsAt (Stands c) (slice_index numbers 2) (plain_pairs b.parents.items))
     (literals : IsLiteralList c (slice_index numbers 3) (plain_rules b.literals.items))
-    (tree : IsTreeList c (slice_index numbers 4) (plain_leaves b.leaves.items))
+    (tree : IsTreeList c (slice_index numbers 4) b.leaves)
     (globs : IsGlobList c (slice_index numbers 5) (plain_rules b.globs.items))
     (magic : MagicStands c (slice_index numbers 6) (plain_magic b.magic))
     (icons : PairsAt (Stands c) (slice_index numbers 8) (plain_pairs b.icons.items))
     (generic : PairsAt (Stands c) (slice_index numbers 9) (plain_pairs b.generic_icons.items)) where
   -- all rules
   abbrev all : List GlobRule
-  all = plain_rules b.literals.items ++ (plain_leaves b.leaves.items ++ plain_rules b.globs.items)
+  all = plain_rules b.literals.items ++ (b.leaves ++ plain_rules b.globs.items)
 
   -- they are the lists'
   pub spelled : Spells c (plain_lists b)
   spelled =
       let rules = rules_stand c (slice_index numbers 3) (slice_index numbers 4) (slice_index numbers 5) (plain_rules b.literals.items)
-      (plain_leaves b.leaves.items) (plain_rules b.globs.items) all refl literals tree globs in
+      b.leaves (plain_rules b.globs.items) all refl literals tree globs in
       record {
         within = header.within;
         offsets = offsets_of numbers;
@@ -97,7 +97,7 @@ module _ (c numbers : List ℕ) (b : Lists) (header : IsHeader c numbers)
   limited = record {
     rules =
         rules_limits c (slice_index numbers 3) (slice_index numbers 4) (slice_index numbers 5) (plain_rules b.literals.items)
-        (plain_leaves b.leaves.items) (plain_rules b.globs.items) all refl literals tree globs;
+        b.leaves (plain_rules b.globs.items) all refl literals tree globs;
     lines = magic.allowed;
   }
 

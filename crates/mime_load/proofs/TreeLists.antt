@@ -1,8 +1,8 @@
 -- A tree that was walked is the suffix tree of its rules.
-use Rattle.std.proofs.Common.{◌≡◌, ℕ, ◌+◌, ◌*◌, true, List, [], ◌∷◌, ◌++◌, length, map, ap, refl, sym, subst, ◌∙◌, arith}
+use Rattle.std.proofs.Common.{◌≡◌, ℕ, ◌+◌, ◌*◌, true, List, [], ◌∷◌, length, map, ap, sym, subst, ◌∙◌, arith}
 use Rattle.std.specs.Prelude.{reverse}
 use Rattle.std.specs.List.{All}
-use Rattle.std.proofs.lemmas.List.{map-append, reverse-append, reverse-reverse}
+use Rattle.std.proofs.lemmas.List.{reverse-reverse}
 use Rattle.mime_base.specs.Cache.Bytes.{Stands}
 use Rattle.mime_base.specs.Format.Records.{CardsAt}
 use Rattle.mime_base.specs.Format.Sorted.{with_key}
@@ -12,25 +12,12 @@ use Rattle.mime_base.specs.Format.Tree.{InOrder, node_count}
 use Rattle.mime_base.specs.declared.database.rule.GlobRule.{GlobRule}
 use Rattle.mime_view.specs.Listing.Reads.{rules_in}
 use Rattle.mime_view.proofs.SuffixTreeLemmas.TreeLeaves.{leaves, leaves-at, length-leaves, rules-leaves}
-use Rattle.mime_load.specs.Lent.{plain_leaf, plain_leaves}
 use Rattle.mime_load.specs.Parts.{IsTreeList}
-use Rattle.mime_load.specs.declared.leaf.LeafRule.{LeafRule}
 use Rattle.mime_load.specs.Walks.{Walked}
 use Rattle.mime_load.proofs.EndedPaths.{HasPath, ended_limits, ended_paths, ended_rules, endings_of, keys_of, paths_of}
 use Rattle.mime_load.proofs.RuleLists.{all_kept}
 use Rattle.mime_load.proofs.TreeFronts.{nodes_counted}
 use Rattle.mime_load.proofs.TreePaths.{paths}
-
--- leaves of the code in the other order
-pub leaves_reversed : (before after : List LeafRule) → after ≡ reverse before → plain_leaves after ≡ reverse (plain_leaves before)
-leaves_reversed before after is = ap plain_leaves is ∙ turned before
-  where
-    turned : (rules : List LeafRule) → plain_leaves (reverse rules) ≡ reverse (plain_leaves rules)
-    turned [] = refl
-    turned (rule ∷ rules) =
-        ap plain_leaves (reverse-append (rule ∷ []) rules) ∙ map-append plain_leaf (reverse rules) (rule ∷ [])
-        ∙ ap (λ (xs : List GlobRule). xs ++ plain_leaf rule ∷ []) (turned rules)
-        ∙ sym (reverse-append (plain_leaf rule ∷ []) (plain_leaves rules))
 
 -- a tree of the rules that it holds
 module _ (c : List ℕ) (at first count : ℕ) (after rules : List GlobRule) (old new : ℕ) (cards : CardsAt (Stands c) at (count ∷ first ∷ []))

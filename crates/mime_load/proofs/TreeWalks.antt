@@ -2,7 +2,7 @@
 use Rattle.std.proofs.Common.{◌≡◌, ℕ, ◌+◌, ◌%◌, ◌<◌, true, ◌≤◌, ◌≢◌, List, [], ◌∷◌, ◌++◌, length, get_or, ap, refl, sym, subst, ◌∙◌, arith, append_assoc, length-append}
 use Rattle.std.specs.Prelude.{nat_le, reverse}
 use Rattle.std.specs.List.{All}
-use Rattle.std.proofs.lemmas.List.{append-nil, length-map, length-reverse, reverse-append}
+use Rattle.std.proofs.lemmas.List.{append-nil, length-reverse, reverse-append}
 use Rattle.mime_base.specs.Cache.Bytes.{Stands}
 use Rattle.mime_base.specs.Format.Records.{CardsAt, TextAt}
 use Rattle.mime_base.specs.Format.Stored.{weight_and_flags}
@@ -11,9 +11,7 @@ use Rattle.mime_base.specs.Matching.Folding.{compared}
 use Rattle.mime_base.specs.declared.database.rule.GlobRule.{GlobRule}
 use Rattle.mime_view.specs.Listing.Reads.{rules_in}
 use Rattle.mime_view.proofs.SuffixTreeLemmas.TreeLeaves.{length-leaves, rules-leaves}
-use Rattle.mime_load.specs.Lent.{plain_leaf, plain_leaves}
 use Rattle.mime_load.specs.Walks.{IsLeafRule, Walked, is_suffix}
-use Rattle.mime_load.specs.declared.leaf.LeafRule.{LeafRule}
 use Rattle.mime_load.proofs.RuleLists.{flags_are}
 
 -- no siblings
@@ -124,24 +122,15 @@ two (a ∷ []) long = absurd (omega arith)
 two (a ∷ b ∷ []) long = refl
 two (a ∷ b ∷ d ∷ rest) long = absurd (omega arith)
 
--- the same of leaves of the code
-pub more_leaves : (before after : List LeafRule) (added : List GlobRule) → plain_leaves after ≡ plain_leaves before ++ added
-    → length after ≢ length before → length (plain_leaves before) < length (plain_leaves after)
-more_leaves before after added is other =
-    more_rules (plain_leaves before) (plain_leaves after) added is
-    (λ same. other (sym (length-map after plain_leaf) ∙ same ∙ length-map before plain_leaf))
-
 -- so there are more where the tree that was added has a leaf
-pub some_leaves : (before after : List LeafRule) (tree : Tree) → plain_leaves after ≡ plain_leaves before ++ reverse (rules_in tree)
-    → 0 < leaf_count tree → length after ≡ length before → ⊥
-some_leaves before after tree is some same =
+pub some_rules : (before after : List GlobRule) (tree : Tree) → after ≡ before ++ reverse (rules_in tree) → 0 < leaf_count tree
+    → length after ≡ length before → ⊥
+some_rules before after tree is some same =
     absurd (omega (
       arith,
       ap (λ (xs : List GlobRule). length xs) is,
-      length-append (plain_leaves before) (reverse (rules_in tree)),
+      length-append before (reverse (rules_in tree)),
       leaf_count-is tree,
-      length-map before plain_leaf,
-      length-map after plain_leaf,
       some,
       same,
     ))

@@ -27,11 +27,7 @@ plain_rules rules = map plain_rule rules
 
 -- a rule of the suffix tree
 abbrev pub plain_leaf : LeafRule → GlobRule
-plain_leaf rule = record { weight = rule.weight; kind = rule.kind.now; pattern = rule.pattern.items; cased = rule.cased }
-
--- rules of the suffix tree, in their order
-abbrev pub plain_leaves : List LeafRule → List GlobRule
-plain_leaves rules = map plain_leaf rules
+plain_leaf rule = record { weight = rule.weight; kind = rule.kind.now; pattern = rule.pattern.now; cased = rule.cased }
 
 -- the bytes of a mask that is there
 abbrev pub lent_mask : Option (Bor (List ℕ)) → Option (List ℕ)
@@ -77,7 +73,7 @@ plain_magic magic = sections_over magic.sections.items magic.lines.items
 -- the database of the lists of a cache: its rules are those of the literal list, of the tree and of the glob list
 abbrev pub plain_lists : Lists → PlainDatabase
 plain_lists b = record {
-  rules = plain_rules b.literals.items ++ (plain_leaves b.leaves.items ++ plain_rules b.globs.items);
+  rules = plain_rules b.literals.items ++ (b.leaves ++ plain_rules b.globs.items);
   aliases = plain_pairs b.aliases.items;
   parents = plain_pairs b.parents.items;
   sections = plain_magic b.magic;

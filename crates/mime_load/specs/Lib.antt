@@ -2,6 +2,7 @@ pub mod Adding
 pub mod Faults
 pub mod FirstUnread
 pub mod IconLists
+pub mod Leaves
 pub mod Lent
 pub mod MagicStanding
 pub mod NameLists

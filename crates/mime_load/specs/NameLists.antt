@@ -7,13 +7,13 @@ use Rattle.mime_base.specs.Format.Pairs.{PairsAt}
 use Rattle.mime_base.specs.Format.Stored.{glob_rules, literal_rules}
 use Rattle.mime_base.specs.Format.SuffixTree.{tree_size}
 use Rattle.mime_base.specs.declared.database.rule.GlobRule.{GlobRule}
-use Rattle.mime_load.specs.Lent.{plain_leaves, plain_pairs, plain_rules}
+use Rattle.mime_load.specs.Lent.{plain_pairs, plain_rules}
 use Rattle.mime_load.specs.Whole.{AreRules}
 use Rattle.mime_load.specs.declared.name_lists.NameLists.{NameLists}
 
 -- the rules of the literal list, of the tree and of the glob list
 abbrev pub listed_rules : NameLists → List GlobRule
-listed_rules lists = plain_rules lists.literals.items ++ (plain_leaves lists.leaves.items ++ plain_rules lists.globs.items)
+listed_rules lists = plain_rules lists.literals.items ++ (lists.leaves ++ plain_rules lists.globs.items)
 
 -- Aliases and rules stand in a cache where its header says.
 pub record HasNames (c : List ℕ) (pairs : List (List ℕ × List ℕ)) (all : List GlobRule) : Type 0 where

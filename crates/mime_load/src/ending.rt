@@ -1,36 +1,40 @@
 //! An ending of names, which grows to the front on the way down the suffix tree.
 
-ghost use Rattle.std.specs.Prelude.{◌≡◌, ◌<◌, [], ◌∷◌, length, drop, OnOk, IfErr, IfOk};
+ghost use Rattle.std.specs.Prelude.{◌≡◌, ◌+◌, ◌<◌, [], ◌∷◌, length, drop};
 
-use crate::leaf::LeafPattern;
-use crate::unread::Unread;
-use smallvec::SmallVec;
-use std::alloc::Global;
 use std::marker::Model;
+
+/// How many bytes a pattern has at most: a `*`, and the longest ending.
+const LONGEST: usize = 255;
 
 /// An ending of names.
 #[derive(Drop)]
 pub struct NameEnding {
-    /// Its bytes, from the last to the first.
-    path: Vec<u8>,
+    /// Room for the longest pattern. The pattern of the ending is at its end.
+    bytes: [u8; LONGEST],
+    /// Where the pattern begins.
+    start: usize,
 }
 
 impl Model for NameEnding {
-    ghost use Rattle.std.specs.Prelude.{ℕ, List, reverse};
+    ghost use Rattle.std.specs.Prelude.{◌≡◌, ℕ, ◌+◌, ◌<◌, List, ◌∷◌, drop};
 
     ghost Value = { List ℕ };
 
-    ghost view = { λ ending. reverse ending.path.items };
+    ghost view = { λ ending. drop (ending.start + 1) ending.bytes };
+
+    ghost invariant = { λ ending. (ending.start < 255) × (drop ending.start ending.bytes ≡ 42 ∷ drop (ending.start + 1) ending.bytes) };
 }
 
 impl NameEnding {
-    /// The ending of no bytes. It never allocates.
-    pub fn none(alloc: Global) -> NameEnding
+    /// The ending of no bytes.
+    pub fn none() -> NameEnding
         // It has no byte.
         ensures { result ≡ [] }
     {
         NameEnding {
-            path: Vec::new(alloc),
+            bytes: [b'*'; LONGEST],
+            start: LONGEST - 1,
         }
     }
 
@@ -39,38 +43,46 @@ impl NameEnding {
         // It is the number of its bytes.
         ensures { result ≡ length self.now }
     {
-        self.path.len()
+        LONGEST - 1 - self.start
     }
 
     /// Puts a byte before it.
-    pub fn grow(&mut self, byte: u8) -> Result<(), Unread>
+    pub fn grow(&mut self, byte: u8)
+        // There is room for one more.
+        requires room { length self.old < 254 }
         // The byte stands before the others.
-        ensures grown { OnOk result (self.new ≡ byte ∷ self.old) }
-        // Only memory is refused.
-        ensures need { IfErr result (λ e. e ≡ Unread.OutOfMemory) }
+        ensures grown { self.new ≡ byte ∷ self.old }
     {
-        self.path.push(byte)?;
-        Ok(())
+        put(&mut self.bytes, self.start, byte);
+        self.start -= 1;
+        put(&mut self.bytes, self.start, b'*');
     }
 
     /// Takes its first byte away.
     pub fn shrink(&mut self)
+        // There is one.
+        requires some { 0 < length self.old }
         // The others stay.
         ensures { self.new ≡ drop 1 self.old }
     {
-        let _ = self.path.pop();
+        self.start += 1;
+        put(&mut self.bytes, self.start, b'*');
     }
 
     /// The pattern of the names that end so: a `*`, and the ending.
-    pub fn pattern(&self, alloc: Global) -> Result<LeafPattern, Unread>
+    pub fn pattern(&self) -> &[u8]
         // It is a `*` and the ending.
-        ensures pattern { IfOk result (λ pattern. pattern.items ≡ 42 ∷ self.now) }
-        // Only memory is refused.
-        ensures need { IfErr result (λ e. e ≡ Unread.OutOfMemory) }
+        ensures { result.now ≡ 42 ∷ self.now }
     {
-        let mut pattern = SmallVec::from_slice(alloc, &self.path)?;
-        pattern.push(b'*')?;
-        pattern.as_mut_slice().reverse();
-        Ok(pattern)
+        &self.bytes[self.start..]
     }
+}
+
+/// Writes a byte at a place.
+fn put(bytes: &mut [u8], place: usize, byte: u8)
+    requires { place < length bytes.old }
+    ensures same { length bytes.new ≡ length bytes.old }
+    ensures written { drop place bytes.new ≡ byte ∷ drop (place + 1) bytes.old }
+{
+    bytes[place] = byte;
 }

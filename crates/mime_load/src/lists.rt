@@ -1,6 +1,6 @@
 //! The lists of a cache.
 
-use crate::leaf::LeafRule;
+use crate::leaf::Leaves;
 use crate::magic::LentMagic;
 use crate::pair::LentPair;
 use mime_base::LentRule;
@@ -15,7 +15,7 @@ pub struct Lists<'a> {
     /// The rules of the literal list, sorted by their patterns.
     pub literals: Vec<LentRule<'a>>,
     /// The rules of the suffix tree, in the order of its leaves.
-    pub leaves: Vec<LeafRule<'a>>,
+    pub leaves: Leaves<'a>,
     /// The rules of the glob list, in its order.
     pub globs: Vec<LentRule<'a>>,
     /// The sections of magic with their lines, in the order of the list.

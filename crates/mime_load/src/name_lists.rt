@@ -9,7 +9,7 @@ ghost use Rattle.mime_base.specs.declared.database.rule.GlobRule.{GlobRule};
 ghost use Rattle.mime_load.specs.NameLists.{AreNameLists, HasNames, rule_bytes};
 ghost use Rattle.mime_load.specs.Taking.{PaysFor};
 
-use crate::leaf::LeafRule;
+use crate::leaf::Leaves;
 use crate::pair::LentPair;
 use crate::pairs::aliases_at;
 use crate::reading_back::read_header;
@@ -29,7 +29,7 @@ pub struct NameLists<'a> {
     /// The rules of the literal list, sorted by their patterns.
     pub literals: Vec<LentRule<'a>>,
     /// The rules of the suffix tree, in the order of its leaves.
-    pub leaves: Vec<LeafRule<'a>>,
+    pub leaves: Leaves<'a>,
     /// The rules of the glob list, in its order.
     pub globs: Vec<LentRule<'a>>,
 }

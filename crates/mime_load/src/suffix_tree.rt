@@ -7,13 +7,13 @@ ghost use Rattle.std.specs.Prelude.{◌≡◌, ℕ, ◌+◌, ◌*◌, ◌^◌, �
 ghost use Rattle.mime_base.specs.Format.SuffixTree.{tree_size};
 ghost use Rattle.mime_base.specs.Format.Tree.{Tree, node_count, sibling_count};
 ghost use Rattle.mime_base.specs.declared.database.rule.GlobRule.{GlobRule};
-ghost use Rattle.mime_load.specs.Lent.{plain_leaf, plain_leaves};
+ghost use Rattle.mime_load.specs.Lent.{plain_leaf};
 ghost use Rattle.mime_load.specs.Parts.{IsTreeList};
 ghost use Rattle.mime_load.specs.Taking.{OnlyLooks, TakesOnlyRecords};
 ghost use Rattle.mime_load.specs.Walks.{IsLeafRule, ReadsSibling, TreeStands, Walked, first_character, first_nodes, is_suffix};
 
 use crate::ending::NameEnding;
-use crate::leaf::LeafRule;
+use crate::leaf::{LeafRule, Leaves};
 use crate::reading::{read_numbers, read_text};
 use crate::rules::{are_bytes, is_as_compared};
 use crate::source::Source;
@@ -32,24 +32,24 @@ pub fn leaves_at<'a>(
     source: &Source<'_, 'a>,
     at: u32,
     taking: &mut Taking,
-) -> Result<Vec<LeafRule<'a>>, Unread>
+) -> Result<Leaves<'a>, Unread>
     // A tree of these rules stands there, and they keep their limits.
-    ensures stand { IfOk result (λ rules. IsTreeList source.now.counted.now at (plain_leaves rules.items)) }
+    ensures stand { IfOk result (λ rules. IsTreeList source.now.counted.now at rules) }
     // Of rules whose tree stands there, and with room for its nodes, only memory can be short.
     ensures need { (rules : List GlobRule) → IsTreeList source.now.counted.now at rules → 12 * tree_size rules ≤ taking.old.records →
         IfErr result (λ e. e ≡ Unread.OutOfMemory) }
     // Its nodes, leaves included, take twelve bytes each.
-    ensures taken { IfOk result (λ rules. taking.new.records + 12 * tree_size (plain_leaves rules.items) ≡ taking.old.records) }
+    ensures taken { IfOk result (λ rules. taking.new.records + 12 * tree_size rules ≡ taking.old.records) }
     // No room of values is taken, and one record is visited besides.
     ensures takes { TakesOnlyRecords 1 0 taking.old taking.new }
 {
     let numbers = read_numbers::<2>(source, u64::from(at), taking)?;
     let [count, first] = numbers;
-    let mut ending = NameEnding::none(source.alloc);
-    let mut rules = Vec::new(source.alloc);
-    read_siblings(source, first, count, &mut ending, &mut rules, taking)?;
-    rules.reverse();
-    Ok(rules)
+    let mut ending = NameEnding::none();
+    let mut leaves = Leaves::none(source.alloc);
+    read_siblings(source, first, count, &mut ending, &mut leaves, taking)?;
+    leaves.reverse();
+    Ok(leaves)
 }
 
 /// Reads the `count` siblings from `first` on, to which an ending leads.
@@ -59,13 +59,13 @@ fn read_siblings<'a>(
     first: u32,
     count: u32,
     ending: &mut NameEnding,
-    rules: &mut Vec<LeafRule<'a>>,
+    leaves: &mut Leaves<'a>,
     taking: &mut Taking,
 ) -> Result<(), Unread>
     // The ending is no longer than the deepest.
     requires depth { length ending.old ≤ 254 }
     // They stand, and their rules are added, from the last to the first.
-    ensures walked { OnOk result (Walked source.now.counted.now first count ending.old 1 (plain_leaves rules.old.items) (plain_leaves rules.new.items)
+    ensures walked { OnOk result (Walked source.now.counted.now first count ending.old 1 leaves.old leaves.new
         taking.old.records taking.new.records) }
     // Of siblings that stand there, and with room for their nodes, only memory can be short.
     ensures need { (tree : Tree) → TreeStands source.now.counted.now first ending.old tree → sibling_count tree ≡ count →
@@ -77,7 +77,7 @@ fn read_siblings<'a>(
     let mut next = 256;
     for done in 0..count {
         let at = u64::from(first) + 12 * u64::from(count - 1 - done);
-        let before = read_sibling(source, at, next, ending, rules, taking)?;
+        let before = read_sibling(source, at, next, ending, leaves, taking)?;
         next = before;
     }
     Ok(())
@@ -90,7 +90,7 @@ fn read_sibling<'a>(
     at: u64,
     next: u32,
     ending: &mut NameEnding,
-    rules: &mut Vec<LeafRule<'a>>,
+    leaves: &mut Leaves<'a>,
     taking: &mut Taking,
 ) -> Result<u32, Unread>
     // The character after it fits.
@@ -98,8 +98,8 @@ fn read_sibling<'a>(
     // The ending is no longer than the deepest.
     requires depth { length ending.old ≤ 254 }
     // It is read before those that were read after it.
-    ensures reads { IfOk result (λ before. ReadsSibling source.now.counted.now at ending.old next before (plain_leaves rules.old.items)
-        (plain_leaves rules.new.items) taking.old.records taking.new.records) }
+    ensures reads { IfOk result (λ before. ReadsSibling source.now.counted.now at ending.old next before leaves.old
+        leaves.new taking.old.records taking.new.records) }
     // If it stands, with a character below `next` and with room for its nodes, only memory can be short.
     ensures need { (tree : Tree) → TreeStands source.now.counted.now at ending.old tree → 0 < sibling_count tree →
         first_character tree < next →
@@ -116,16 +116,16 @@ fn read_sibling<'a>(
     }
     if character == 0 {
         let rule = read_leaf(source, second, third, ending, taking)?;
-        rules.push(rule)?;
+        leaves.push(rule)?;
         return Ok(1);
     }
     if ending.length() == DEEPEST {
         return Err(Unread::NotSpelled);
     }
-    let before = rules.len();
-    ending.grow(character as u8)?;
-    read_siblings(source, third, second, ending, rules, taking)?;
-    if rules.len() == before {
+    let before = leaves.len();
+    ending.grow(character as u8);
+    read_siblings(source, third, second, ending, leaves, taking)?;
+    if leaves.len() == before {
         return Err(Unread::NotSpelled);
     }
     ending.shrink();
@@ -133,13 +133,13 @@ fn read_sibling<'a>(
 }
 
 /// The rule of a leaf with these second and third numbers, to which an ending leads.
-fn read_leaf<'a>(
+fn read_leaf<'e, 'a>(
     source: &Source<'_, 'a>,
     kind: u32,
     flags: u32,
-    ending: &NameEnding,
+    ending: &'e NameEnding,
     taking: &mut Taking,
-) -> Result<LeafRule<'a>, Unread>
+) -> Result<LeafRule<'e, 'a>, Unread>
     // The ending is no longer than the deepest.
     requires depth { length ending.now ≤ 254 }
     // It is the leaf's.
@@ -151,12 +151,11 @@ fn read_leaf<'a>(
 {
     let kind = read_text(source, kind, taking)?;
     let cased = 256 <= flags;
-    let pattern = ending.pattern(source.alloc)?;
-    let text: &[u8] = &pattern;
-    if 512 <= flags || !is_as_compared(cased, text) || !is_in_tree(text) {
+    let pattern = ending.pattern();
+    if 512 <= flags || !is_as_compared(cased, pattern) || !is_in_tree(pattern) {
         return Err(Unread::NotSpelled);
     }
-    are_bytes(text);
+    are_bytes(pattern);
     Ok(LeafRule {
         weight: (flags % 256) as u8,
         kind,

@@ -6,7 +6,7 @@ use Rattle.std.proofs.lemmas.List.{length-map}
 use Rattle.mime_base.specs.Format.Stored.{glob_rules, is_in_literals, is_in_tree, literal_rules, tree_rules}
 use Rattle.mime_base.specs.declared.database.rule.GlobRule.{GlobRule}
 use Rattle.mime_base.specs.Database.Lent.{plain_rule}
-use Rattle.mime_load.specs.Lent.{plain_leaf, plain_leaves, plain_lists, plain_rules}
+use Rattle.mime_load.specs.Lent.{plain_lists, plain_rules}
 use Rattle.mime_load.specs.declared.lists.Lists.{Lists}
 
 -- one rule more, which is in one of three lists
@@ -31,13 +31,12 @@ rules_within (rule ∷ rules) = omega (
 
 -- the rules of lists that were read back are those of the three lists
 pub rules_length : (b : Lists)
-    → length (plain_lists b).rules ≡ length b.literals.items + length b.leaves.items + length b.globs.items
+    → length (plain_lists b).rules ≡ length b.literals.items + length b.leaves + length b.globs.items
 rules_length b = omega (
   arith,
-  length-append (plain_rules b.literals.items) (plain_leaves b.leaves.items ++ plain_rules b.globs.items),
-  length-append (plain_leaves b.leaves.items) (plain_rules b.globs.items),
+  length-append (plain_rules b.literals.items) (b.leaves ++ plain_rules b.globs.items),
+  length-append b.leaves (plain_rules b.globs.items),
   length-map b.literals.items plain_rule,
-  length-map b.leaves.items plain_leaf,
   length-map b.globs.items plain_rule,
 )
 

@@ -5,12 +5,12 @@ ghost use Rattle.std.specs.List.{All};
 ghost use Rattle.mime_base.specs.Database.Lent.{plain_rule};
 ghost use Rattle.mime_base.specs.Falling.{falling};
 ghost use Rattle.mime_base.specs.Kept.{FitsRank, hits, of_greatest, rank_of_rule};
-ghost use Rattle.mime_load.specs.Lent.{plain_leaves, plain_lists, plain_rules};
+ghost use Rattle.mime_load.specs.Lent.{plain_lists, plain_rules};
 ghost use Rattle.mime_tool.specs.ExplainSteps.{AreMatches, AreRanked, IsReady, database_of};
 
 use super::Explaining;
 use mime_base::{Best, LentRule, Meter, OutOfMemory, class_of_bytes, glob_matches, rank_of};
-use mime_load::{LeafRule, Lists};
+use mime_load::{Leaves, Lists};
 use std::alloc::{AllocError, Global};
 
 /// The rules of all lists of a cache.
@@ -23,7 +23,7 @@ pub(super) fn rules_of<'l, 'b: 'l>(
 {
     let mut rules = Vec::new(alloc);
     push_lent(&mut rules, lists.literals.as_slice())?;
-    push_leaves(&mut rules, lists.leaves.as_slice())?;
+    push_leaves(&mut rules, &lists.leaves)?;
     push_lent(&mut rules, lists.globs.as_slice())?;
     Ok(rules)
 }
@@ -49,17 +49,19 @@ fn push_lent<'l, 'b: 'l>(
 // Puts the rules of the suffix tree behind others.
 fn push_leaves<'l, 'b: 'l>(
     rules: &mut Vec<LentRule<'l>>,
-    leaves: &'l [LeafRule<'b>],
+    leaves: &'l Leaves<'b>,
 ) -> Result<(), AllocError>
-    ensures { OnOk result (map plain_rule rules.new.items ≡ map plain_rule rules.old.items ++ plain_leaves leaves.entry.now) }
+    ensures { OnOk result (map plain_rule rules.new.items ≡ map plain_rule rules.old.items ++ leaves.entry.now) }
 {
-    for leaf in leaves {
+    let mut place = 0;
+    while let Some(leaf) = leaves.get(place) {
         rules.push(LentRule {
             weight: leaf.weight,
             kind: leaf.kind,
-            pattern: leaf.pattern.as_slice(),
+            pattern: leaf.pattern,
             cased: leaf.cased,
         })?;
+        place += 1;
     }
     Ok(())
 }

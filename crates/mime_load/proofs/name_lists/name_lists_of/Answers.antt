@@ -1,7 +1,7 @@
 use Rattle.std.proofs.Common.{refl, slice_index, arith}
 use Rattle.std.proofs.lemmas.Result.{err_from_is_err_and}
 use Rattle.mime_base.specs.Format.Stored.{glob_rules, literal_rules, tree_rules}
-use Rattle.mime_load.specs.Lent.{plain_leaves, plain_rules}
+use Rattle.mime_load.specs.Lent.{plain_rules}
 use Rattle.mime_load.specs.NameLists.{listed_rules}
 use Rattle.mime_load.specs.declared.name_lists.NameLists.{NameLists}
 use Rattle.mime_load.proofs.JoinedRules.{rules_limits, rules_stand}
@@ -21,7 +21,7 @@ returns-clause-stand c =
       globs = c.in_ok-globs.globs;
     } in
     let first = plain_rules lists.literals.items in
-    let leaves = plain_leaves lists.leaves.items in
+    let leaves = lists.leaves in
     let last = plain_rules lists.globs.items in
     record {
       offsets = offsets_of numbers;
@@ -70,7 +70,7 @@ returns-in_err-globs-clause-need c = λ aliases rules has within room.
     let literals = literals_left cache (slice_index c.in_ok-header.header 3) c.aliases_at.new.taking.records c.literals_at.new.taking.records
     c.in_ok-literals.literals.items (literal_rules rules) c.in_ok-literals.ensures.stand read.literals c.in_ok-literals.ensures.taken in
     let leaves = leaves_left cache (slice_index c.in_ok-header.header 4) c.literals_at.new.taking.records c.leaves_at.new.taking.records
-    c.in_ok-leaves.leaves.items (tree_rules rules) c.in_ok-leaves.ensures.stand read.leaves c.in_ok-leaves.ensures.taken in
+    c.in_ok-leaves.leaves (tree_rules rules) c.in_ok-leaves.ensures.stand read.leaves c.in_ok-leaves.ensures.taken in
     let p = err_from_is_err_and c.from_residual-in_err-globs.result c.from_residual-in_err-globs.ensures.1 in
     rw (p.1, p.2) (c.in_err-globs.ensures.need (glob_rules rules) read.globs
     (omega (arith, room, read.size, literals, leaves, c.read_header.ensures.looks.records, c.aliases_at.ensures.looks.records)))

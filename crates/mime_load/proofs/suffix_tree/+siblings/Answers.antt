@@ -3,14 +3,13 @@ use Rattle.std.proofs.lemmas.Result.{err_from_is_err_and}
 use Rattle.mime_base.specs.Cache.Bytes.{Stands}
 use Rattle.mime_base.specs.Format.Records.{CardsAt}
 use Rattle.mime_base.specs.Format.Tree.{TreeAt}
-use Rattle.mime_load.specs.Lent.{plain_leaf, plain_leaves}
+use Rattle.mime_load.specs.Lent.{plain_leaf}
 use Rattle.mime_load.specs.Walks.{TreeStands, Walked}
-use Rattle.mime_load.proofs.RuleLists.{mapped_pushed}
 use Rattle.mime_load.proofs.SiblingCounts.{same_counts}
 use Rattle.mime_load.proofs.NextSiblings.{lower_before, next_as, next_sibling, none_before}
 use Rattle.mime_load.proofs.SiblingsRead.{sibling_inside, sibling_read}
 use Rattle.mime_load.proofs.TakingLemmas.{takes_more}
-use Rattle.mime_load.proofs.TreeWalks.{more_leaves, some_leaves, three, walked_as, walked_leaf, walked_node, walked_none}
+use Rattle.mime_load.proofs.TreeWalks.{more_rules, some_rules, three, walked_as, walked_leaf, walked_node, walked_none}
 use Rattle.mime_load.proofs.suffix_tree.+siblings.Goals as goal
 
 pub read_sibling-returns-then-character-eq0-clause-reads : goal.read_sibling-returns-then-character-eq0-clause-reads
@@ -18,11 +17,11 @@ read_sibling-returns-then-character-eq0-clause-reads t c = record {
   walked = λ count all first w.
       let numbers = c.in_ok-numbers.numbers in
       walked_leaf c.args.source.now.counted.now c.args.at count (get_or numbers 1 0) (get_or numbers 2 0) (get_or numbers 0 0)
-      c.args.ending.now c.args.next first (plain_leaves c.args.rules.now.items) (plain_leaves c.push.new.self.items) all
+      c.args.ending.now c.args.next first c.args.leaves.now c.push.new.self all
       c.args.taking.now.records c.read_leaf.new.taking.records (plain_leaf c.in_ok-rule.rule)
       (subst (CardsAt (Stands c.args.source.now.counted.now) c.args.at) (three numbers (search rules)) c.in_ok-numbers.ensures.stand)
       c.if-character-eq0.true c.in_ok-rule.ensures.is c.requires.next.0
-      (mapped_pushed plain_leaf c.args.rules.now.items c.push.new.self.items c.in_ok-rule.rule c.in_ok-push.ensures.items)
+      c.in_ok-push.ensures.pushed
       (omega (arith, c.in_ok-take_records.ensures.taken, c.read_numbers.ensures.looks.records, c.read_leaf.ensures.looks.records)) w;
   is_next = λ count.
       lower_before c.args.source.now.counted.now c.in_ok-numbers.numbers c.args.at count 1 (search rules) c.in_ok-numbers.ensures.stand
@@ -35,15 +34,15 @@ read_sibling-returns-clause-reads t c = record {
   walked = λ count all first w.
       let numbers = c.in_ok-numbers.numbers in
       let down : Walked c.args.source.now.counted.now (get_or numbers 2 0) (get_or numbers 1 0) (get_or numbers 0 0 ∷ c.args.ending.now) 1
-      (plain_leaves c.args.rules.now.items) (plain_leaves c.read_siblings.new.rules.items) c.read_numbers.new.taking.records
+      c.args.leaves.now c.read_siblings.new.leaves c.read_numbers.new.taking.records
       c.read_siblings.new.taking.records =
-      rw c.in_ok-grow.ensures.grown at c.in_ok-read_siblings.ensures.walked in
+      rw c.grow.ensures.grown at c.in_ok-read_siblings.ensures.walked in
       walked_node c.args.source.now.counted.now c.args.at count (get_or numbers 1 0) (get_or numbers 2 0) (get_or numbers 0 0)
-      c.args.ending.now c.args.next first (plain_leaves c.args.rules.now.items) (plain_leaves c.read_siblings.new.rules.items) all
+      c.args.ending.now c.args.next first c.args.leaves.now c.read_siblings.new.leaves all
       c.args.taking.now.records c.read_numbers.new.taking.records c.read_siblings.new.taking.records
       (subst (CardsAt (Stands c.args.source.now.counted.now) c.args.at) (three numbers (search rules)) c.in_ok-numbers.ensures.stand)
       (search rules) (omega (arith, c.if-next-character.false)) down
-      (more_leaves c.args.rules.now.items c.read_siblings.new.rules.items _ down.rules (search rules))
+      (more_rules c.args.leaves.now c.read_siblings.new.leaves _ down.rules (search rules))
       (omega (arith, c.in_ok-take_records.ensures.taken, c.read_numbers.ensures.looks.records)) w;
   is_next = λ count.
       let numbers = c.in_ok-numbers.numbers in
@@ -55,7 +54,7 @@ read_sibling-returns-clause-reads t c = record {
 pub read_siblings-loop-done-init : goal.read_siblings-loop-done-init
 read_siblings-loop-done-init t c = record {
   walked = walked_none c.args.source.now.counted.now (c.args.first + 12 * (c.args.count - 0)) c.args.ending.now _
-      (plain_leaves c.args.rules.now.items) c.args.taking.now.records;
+      c.args.leaves.now c.args.taking.now.records;
   is_next = none_before c.args.source.now.counted.now (c.args.first + 12 * (c.args.count - 0));
   ending = refl;
   some = omega arith;
@@ -68,14 +67,14 @@ read_siblings-loop-done-preserved t c =
     let at : ℕ = c.from.result + 12 * c.from-in-loop-done.result in
     let old = c.loop-done.invariant.walked in
     let here : Walked c.args.source.now.counted.now (at + 12) c.loop-done.done c.loop-done.ending c.loop-done.next
-    (plain_leaves c.args.rules.now.items) (plain_leaves c.loop-done.rules.items) c.args.taking.now.records c.loop-done.taking.records =
+    c.args.leaves.now c.loop-done.leaves c.args.taking.now.records c.loop-done.taking.records =
     walked_as (c.args.first + 12 * (c.args.count - c.loop-done.done)) (at + 12) c.args.ending.now c.loop-done.ending
     (omega (arith, c.loop-done-test.true, c.from.ensures, c.from-in-loop-done.ensures)) (sym c.loop-done.invariant.ending) old in
     let sibling = c.in_ok-before.ensures.reads in
     record {
       walked = walked_as at (c.args.first + 12 * (c.args.count - (c.loop-done.done + 1))) c.loop-done.ending c.args.ending.now
           (omega (arith, c.from.ensures, c.from-in-loop-done.ensures)) c.loop-done.invariant.ending
-          (sibling.walked c.loop-done.done c.args.taking.now.records (plain_leaves c.args.rules.now.items) here);
+          (sibling.walked c.loop-done.done c.args.taking.now.records c.args.leaves.now here);
       is_next = next_as c.args.source.now.counted.now at (c.args.first + 12 * (c.args.count - (c.loop-done.done + 1)))
           (c.loop-done.done + 1)
           c.in_ok-before.before (omega (arith, c.from.ensures, c.from-in-loop-done.ensures)) (sibling.is_next c.loop-done.done);
@@ -140,7 +139,7 @@ read_sibling-returns-in_err-read_siblings-clause-need t c = λ tree stands some 
     let read = sibling_read c.args.source.now.counted.now c.in_ok-numbers.numbers c.args.at c.args.ending.now tree (search rules)
     c.in_ok-numbers.ensures.stand stands some in
     let below = read.node_read (omega (arith, c.if-character-eq0.false)) in
-    let need = rw c.in_ok-grow.ensures.grown at c.in_err-read_siblings.ensures.need in
+    let need = rw c.grow.ensures.grown at c.in_err-read_siblings.ensures.need in
     let p = err_from_is_err_and c.from_residual-in_err-read_siblings.result c.from_residual-in_err-read_siblings.ensures.1 in
     rw (p.1, p.2) (need below.below below.stands below.siblings
     (omega (arith, room, below.counted, c.in_ok-take_records.ensures.taken, c.read_numbers.ensures.looks.records)))
@@ -154,11 +153,11 @@ read_sibling-returns-then-len-before-clause-need t c = λ tree stands some low r
     some in
     let below = read.node_read (omega (arith, c.if-character-eq0.false)) in
     let down : Walked cache (get_or numbers 2 0) (get_or numbers 1 0) (get_or numbers 0 0 ∷ c.args.ending.now) 1
-    (plain_leaves c.args.rules.now.items) (plain_leaves c.read_siblings.new.rules.items) c.read_numbers.new.taking.records
+    c.args.leaves.now c.read_siblings.new.leaves c.read_numbers.new.taking.records
     c.read_siblings.new.taking.records =
-    rw c.in_ok-grow.ensures.grown at c.in_ok-read_siblings.ensures.walked in
+    rw c.grow.ensures.grown at c.in_ok-read_siblings.ensures.walked in
     let same = same_counts cache (get_or numbers 2 0) 0 below.stands.before down.tree below.below (down.ordered 0 (omega arith))
     below.stands.ordered down.stand below.stands.stand (down.siblings ∙ sym below.siblings) in
-    absurd (some_leaves c.args.rules.now.items c.read_siblings.new.rules.items down.tree down.rules
+    absurd (some_rules c.args.leaves.now c.read_siblings.new.leaves down.tree down.rules
     (omega (arith, same.leaves, below.leaves))
     (search rules))

@@ -1,5 +1,4 @@
 use Rattle.std.proofs.Common.{◌≡◌, ◌+◌, ◌-◌, ◌*◌, ◌≤◌, length}
-use Rattle.mime_load.specs.Lent.{plain_leaves}
 use Rattle.mime_load.specs.Taking.{TakesOnlyRecords}
 use Rattle.mime_load.specs.Walks.{IsNext, Walked}
 use Rattle.mime_load.proofs.suffix_tree.+siblings.Given as goal
@@ -12,8 +11,8 @@ decreases-read_siblings l = 2 * (254 - length l.ending.now) + 1
 
 abbrev pub invariant-read_siblings-loop-done : goal.invariant-read_siblings-loop-done
 invariant-read_siblings-loop-done l = record {
-  walked : Walked l.source.counted.now (l.first + 12 * (l.count - l.done)) l.done l.initial.ending l.next (plain_leaves l.initial.rules.items)
-      (plain_leaves l.rules.items) l.initial.taking.records l.taking.records;
+  walked : Walked l.source.counted.now (l.first + 12 * (l.count - l.done)) l.done l.initial.ending l.next l.initial.leaves
+      l.leaves l.initial.taking.records l.taking.records;
   is_next : IsNext l.source.counted.now (l.first + 12 * (l.count - l.done)) l.done l.next;
   ending : l.ending ≡ l.initial.ending;
   some : 1 ≤ l.next;

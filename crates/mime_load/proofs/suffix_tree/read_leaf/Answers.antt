@@ -11,7 +11,7 @@ use Rattle.mime_load.proofs.suffix_tree.read_leaf.Goals.{then-flags-ge512-via-th
 pub returns-clause-is : goal.returns-clause-is
 returns-clause-is c =
     leaf_at c.args.source.now.counted.now c.args.kind c.args.flags c.args.ending.now _ _ (search rules) (search rules) (search rules)
-    c.in_ok-kind.ensures.stands (search rules) c.in_ok-pattern.ensures.pattern (as_compared _ _ (search rules)) (search rules)
+    c.in_ok-kind.ensures.stands (search rules) c.pattern-pattern.ensures (as_compared _ _ (search rules)) (search rules)
     c.are_bytes.ensures c.requires.depth
 
 pub returns-in_err-kind-clause-need : goal.returns-in_err-kind-clause-need
@@ -22,10 +22,9 @@ returns-in_err-kind-clause-need c = λ rule stands.
 pub returns-then-flags-ge512-clause-need : goal.returns-then-flags-ge512-clause-need
 returns-then-flags-ge512-clause-need c = λ rule stands.
     let limits : KeepsLimits rule = stands.ends.2 in
-    let text : c.deref-text.result.now ≡ stored_text rule =
-    c.deref-text.ensures ∙ c.in_ok-pattern.ensures.pattern ∙ sym stands.ends.0 in
-    let kept = stored_read rule c.args.flags c.deref-text.result.now limits.0 stands.flags_are text in
-    let suffix : is_suffix c.deref-text.result.now ≡ true = ap is_suffix text ∙ stored_suffix rule stands.ends.1 in
+    let text : c.pattern-pattern.result.now ≡ stored_text rule = c.pattern-pattern.ensures ∙ sym stands.ends.0 in
+    let kept = stored_read rule c.args.flags c.pattern-pattern.result.now limits.0 stands.flags_are text in
+    let suffix : is_suffix c.pattern-pattern.result.now ≡ true = ap is_suffix text ∙ stored_suffix rule stands.ends.1 in
     absurd (elim c.then-flags-ge512.branch [
       | then-flags-ge512-via-then-flags-ge512 w ↦ omega (arith, kept.small, w.if-flags-ge512.true)
       | then-flags-ge512-via-else-flags-ge512+then-not-is_as_compared w ↦

@@ -35,7 +35,7 @@ to_leaves c =
 -- the tree, before the globs
 pub to_globs : (c : In_ok-leaves) → Reaches c.args.source.now.counted.now c.in_ok-header.header Globs c.leaves_at.new.taking.records
 to_globs c =
-    after_leaves _ _ _ _ c.in_ok-leaves.leaves.items (to_leaves (goal.at.In_ok-leaves c).In_ok-literals)
+    after_leaves _ _ _ _ c.in_ok-leaves.leaves (to_leaves (goal.at.In_ok-leaves c).In_ok-literals)
     (rw c.in_ok-leaves.ensures.read at c.leaves_at.ensures.stand) (rw c.in_ok-leaves.ensures.read at c.leaves_at.ensures.taken)
 
 -- the globs, before magic

@@ -13,7 +13,6 @@ returns c =
       c.len-leaves.ensures,
       c.len-globs.ensures,
       lists.literals.ok.0,
-      lists.leaves.ok.0,
       lists.globs.ok.0,
       c.saturating_add.ensures,
       c.saturating_add-2.ensures,
