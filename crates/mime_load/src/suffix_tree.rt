@@ -27,6 +27,17 @@ const DEEPEST: usize = 254;
 /// How many bytes the record of a sibling has.
 const SIBLING: u64 = 12;
 
+/// What is carried down a tree and up again.
+#[derive(Drop)]
+struct Walk<'a> {
+    /// The ending that leads to the siblings that are read.
+    ending: NameEnding,
+    /// The rules so far, from the last to the first.
+    leaves: Leaves<'a>,
+    /// What may still be taken.
+    taking: Taking,
+}
+
 /// The rules of the leaves of the tree at `at`, in their order. Its nodes' records are taken.
 pub fn leaves_at<'a>(
     source: &Source<'_, 'a>,
@@ -45,11 +56,16 @@ pub fn leaves_at<'a>(
 {
     let numbers = read_numbers::<2>(source, u64::from(at), taking)?;
     let [count, first] = numbers;
-    let mut ending = NameEnding::none();
-    let mut leaves = Leaves::none(source.alloc);
-    read_siblings(source, first, count, &mut ending, &mut leaves, taking)?;
-    leaves.reverse();
-    Ok(leaves)
+    let mut walk = Walk {
+        ending: NameEnding::none(),
+        leaves: Leaves::none(source.alloc),
+        taking: *taking,
+    };
+    let result = read_siblings(source, first, count, &mut walk);
+    *taking = walk.taking;
+    result?;
+    walk.leaves.reverse();
+    Ok(walk.leaves)
 }
 
 /// Reads the `count` siblings from `first` on, to which an ending leads.
@@ -58,26 +74,24 @@ fn read_siblings<'a>(
     source: &Source<'_, 'a>,
     first: u32,
     count: u32,
-    ending: &mut NameEnding,
-    leaves: &mut Leaves<'a>,
-    taking: &mut Taking,
+    walk: &mut Walk<'a>,
 ) -> Result<(), Unread>
     // The ending is no longer than the deepest.
-    requires depth { length ending.old ≤ 254 }
+    requires depth { length walk.old.ending ≤ 254 }
     // They stand, and their rules are added, from the last to the first.
-    ensures walked { OnOk result (Walked source.now.counted.now first count ending.old 1 leaves.old leaves.new
-        taking.old.records taking.new.records) }
+    ensures walked { OnOk result (Walked source.now.counted.now first count walk.old.ending 1 walk.old.leaves walk.new.leaves
+        walk.old.taking.records walk.new.taking.records) }
     // Of siblings that stand there, and with room for their nodes, only memory can be short.
-    ensures need { (tree : Tree) → TreeStands source.now.counted.now first ending.old tree → sibling_count tree ≡ count →
-        12 * node_count tree ≤ taking.old.records → IfErr result (λ e. e ≡ Unread.OutOfMemory) }
+    ensures need { (tree : Tree) → TreeStands source.now.counted.now first walk.old.ending tree → sibling_count tree ≡ count →
+        12 * node_count tree ≤ walk.old.taking.records → IfErr result (λ e. e ≡ Unread.OutOfMemory) }
     // The ending is then as it was.
-    ensures ending_stays { OnOk result (ending.new ≡ ending.old) }
-    ensures takes { TakesOnlyRecords 0 0 taking.old taking.new }
+    ensures ending_stays { OnOk result (walk.new.ending ≡ walk.old.ending) }
+    ensures takes { TakesOnlyRecords 0 0 walk.old.taking walk.new.taking }
 {
     let mut next = 256;
     for done in 0..count {
         let at = u64::from(first) + 12 * u64::from(count - 1 - done);
-        let before = read_sibling(source, at, next, ending, leaves, taking)?;
+        let before = read_sibling(source, at, next, walk)?;
         next = before;
     }
     Ok(())
@@ -89,46 +103,44 @@ fn read_sibling<'a>(
     source: &Source<'_, 'a>,
     at: u64,
     next: u32,
-    ending: &mut NameEnding,
-    leaves: &mut Leaves<'a>,
-    taking: &mut Taking,
+    walk: &mut Walk<'a>,
 ) -> Result<u32, Unread>
     // The character after it fits.
     requires next { (1 ≤ next) × (next ≤ 256) }
     // The ending is no longer than the deepest.
-    requires depth { length ending.old ≤ 254 }
+    requires depth { length walk.old.ending ≤ 254 }
     // It is read before those that were read after it.
-    ensures reads { IfOk result (λ before. ReadsSibling source.now.counted.now at ending.old next before leaves.old
-        leaves.new taking.old.records taking.new.records) }
+    ensures reads { IfOk result (λ before. ReadsSibling source.now.counted.now at walk.old.ending next before walk.old.leaves
+        walk.new.leaves walk.old.taking.records walk.new.taking.records) }
     // If it stands, with a character below `next` and with room for its nodes, only memory can be short.
-    ensures need { (tree : Tree) → TreeStands source.now.counted.now at ending.old tree → 0 < sibling_count tree →
+    ensures need { (tree : Tree) → TreeStands source.now.counted.now at walk.old.ending tree → 0 < sibling_count tree →
         first_character tree < next →
-        12 * first_nodes tree ≤ taking.old.records → IfErr result (λ e. e ≡ Unread.OutOfMemory) }
+        12 * first_nodes tree ≤ walk.old.taking.records → IfErr result (λ e. e ≡ Unread.OutOfMemory) }
     // The ending is then as it was.
-    ensures ending_stays { IfOk result (λ before. ending.new ≡ ending.old) }
-    ensures takes { TakesOnlyRecords 0 0 taking.old taking.new }
+    ensures ending_stays { IfOk result (λ before. walk.new.ending ≡ walk.old.ending) }
+    ensures takes { TakesOnlyRecords 0 0 walk.old.taking walk.new.taking }
 {
-    take_records(SIBLING, taking)?;
-    let numbers = read_numbers::<3>(source, at, taking)?;
+    take_records(SIBLING, &mut walk.taking)?;
+    let numbers = read_numbers::<3>(source, at, &mut walk.taking)?;
     let [character, second, third] = numbers;
     if next <= character {
         return Err(Unread::NotSpelled);
     }
     if character == 0 {
-        let rule = read_leaf(source, second, third, ending, taking)?;
-        leaves.push(rule)?;
+        let rule = read_leaf(source, second, third, &walk.ending, &mut walk.taking)?;
+        walk.leaves.push(rule)?;
         return Ok(1);
     }
-    if ending.length() == DEEPEST {
+    if walk.ending.length() == DEEPEST {
         return Err(Unread::NotSpelled);
     }
-    let before = leaves.len();
-    ending.grow(character as u8);
-    read_siblings(source, third, second, ending, leaves, taking)?;
-    if leaves.len() == before {
+    let before = walk.leaves.len();
+    walk.ending.grow(character as u8);
+    read_siblings(source, third, second, walk)?;
+    if walk.leaves.len() == before {
         return Err(Unread::NotSpelled);
     }
-    ending.shrink();
+    walk.ending.shrink();
     Ok(character)
 }
 

@@ -4,8 +4,8 @@ use super::{counts, name_counts};
 use crate::tests::checked::alike;
 use crate::tests::sample::{SAMPLE, SAMPLE_TEXTS, write_at};
 use crate::tests::texts::{EMPTY, Texts, merged};
-use mime_base::LARGEST_CACHE;
-use mime_load::Part;
+use mime_base::{Counted, LARGEST_CACHE, Meter};
+use mime_load::{Part, read_names};
 use mime_store::write_cache;
 use std::alloc::Global;
 use std::test::Fail;
@@ -124,6 +124,46 @@ fn aliases_that_fall(rt: HostRuntime) -> Result<(), Fail> {
         "exchanged",
         counts(rt.alloc(), &bytes)?,
         Err(Part::Aliases),
+    );
+    Ok(())
+}
+
+/// A rule of the suffix tree: its weight, its type, its pattern, and whether it is case-sensitive.
+type Leaf = (u8, &'static [u8], &'static [u8], bool);
+
+/// The rules of the tree by rising last bytes, and of one ending the leaf before what is below it.
+static LEAVES: [Leaf; 5] = [
+    (50, b"t/C", b"*.GZ", true),
+    (0, b"t/d", b"*.a-long-ending-of-names", false),
+    (50, b"t/c", b"*.gz", false),
+    (60, b"t/b", b"*.tar.gz", false),
+    (255, b"t/e", b"*~", false),
+];
+
+static LEAF_TEXTS: Texts<'static> = Texts {
+    globs2: b"60:t/b:*.tar.gz\n255:t/e:*~\n50:t/c:*.gz\n0:t/d:*.a-long-ending-of-names\n50:t/C:*.GZ:cs\n50:t/f:README\n",
+    ..EMPTY
+};
+
+#[test]
+fn leaves_in_their_order(rt: HostRuntime) -> Result<(), Fail> {
+    let alloc = rt.alloc();
+    let database = merged(alloc, &[LEAF_TEXTS])?;
+    let bytes = write_cache(alloc, &database, LARGEST_CACHE)?;
+    let lists = read_names(alloc, &Counted::new(&bytes), &mut Meter::new())?;
+    alike(&rt, "how many", lists.leaves.len(), LEAVES.len());
+    for place in 0..LEAVES.len() {
+        let found = lists
+            .leaves
+            .get(place)
+            .map(|leaf| (leaf.weight, leaf.kind, leaf.pattern, leaf.cased));
+        alike(&rt, "leaf", found, Some(LEAVES[place]));
+    }
+    alike(
+        &rt,
+        "no more",
+        lists.leaves.get(LEAVES.len()).is_none(),
+        true,
     );
     Ok(())
 }
