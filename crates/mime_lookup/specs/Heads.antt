@@ -1,5 +1,6 @@
 -- Heads of lines of magic: bytes that stand in each window that equals a line's value.
-use Rattle.std.specs.Prelude.{◌≡◌, ℕ, ◌+◌, ◌<◌, ◌≤◌, false, List, [], ◌∷◌, length, get_or, Option, slice_index}
+use Rattle.std.specs.Prelude.{◌≡◌, ◌⊎◌, ℕ, ◌+◌, ◌<◌, ◌≤◌, false, List, [], ◌∷◌, length, get_or, Option, slice_index}
+use Rattle.std.specs.List.{All}
 use Rattle.mime_base.specs.Magic.Holds.{bytes_of_mask, equals_from, line_holds}
 use Rattle.mime_base.specs.Magic.{PlainLine, PlainMatchlet}
 use Rattle.mime_base.specs.declared.magic.host.Host.{Host}
@@ -25,12 +26,20 @@ pub record ShowsBytes (head : LineHead) (content : List ℕ) (place : ℕ) : Typ
   pub third : head.skip + 1 < head.size → slice_index content (place + head.skip) ≡ head.third
   pub fourth : head.skip + 1 < head.size → slice_index content (place + head.skip + 1) ≡ head.fourth
 
--- a head refuses a content: its bytes stand in none of the windows of its range that lie in the content
-pub record RefusesContent (head : LineHead) (content : List ℕ) : Type 0 where
+-- The bytes of a head stand in none of the windows of its range that lie in a content.
+pub record LacksBytes (head : LineHead) (content : List ℕ) : Type 0 where
   pub known : 0 < head.size
   pub bytes : AreBytes content
   pub lacks : (place : ℕ) → head.start ≤ place → place < head.start + head.range → place + head.size ≤ length content
       → ShowsBytes head content place → ⊥
+
+-- a head refuses a content that is shorter than it says, or lacks its bytes
+abbrev pub RefusesContent : LineHead → List ℕ → Type 0
+RefusesContent head content = (length content < head.start + head.size) ⊎ LacksBytes head content
+
+-- no head says of less than `shortest` bytes that a content has enough
+abbrev pub AreNoneShorter : ℕ → List LineHead → Type 0
+AreNoneShorter shortest heads = All (λ head. shortest ≤ head.start + head.size) heads
 
 -- a content that a head refuses has no window that equals a line's value
 abbrev pub IsHead : LineHead → PlainLine → Type 0

@@ -13,6 +13,7 @@ mod magic_index;
 mod pieces;
 mod reads;
 mod sample;
+mod shortest;
 mod sniffed;
 mod steps;
 

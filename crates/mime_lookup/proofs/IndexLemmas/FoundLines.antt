@@ -9,7 +9,7 @@ use Rattle.mime_base.specs.Magic.{PlainSection}
 use Rattle.mime_base.specs.declared.magic.host.Host.{Host}
 use Rattle.mime_lookup.proofs.IndexLemmas.LineHeads.{line_heads-length}
 use Rattle.mime_lookup.proofs.IndexLemmas.TopLines.{all_tops, first_top, tops_from}
-use Rattle.mime_lookup.specs.Heads.{AreBytes, AreLineHeads, IsHeadOf, RefusesContent}
+use Rattle.mime_lookup.specs.Heads.{AreBytes, AreLineHeads, AreNoneShorter, IsHeadOf, RefusesContent}
 use Rattle.mime_lookup.specs.Tables.{AreTables, FailsLine, IsFirst, IsInTable, Narrows, OthersFail, TablesFail}
 use Rattle.mime_lookup.specs.TopLines.{PlainTop, top_lines}
 use Rattle.mime_lookup.specs.declared.indexed.line_head.LineHead.{LineHead}
@@ -38,17 +38,29 @@ module _ (heads : List LineHead) (tops : List PlainTop) (content : List ℕ) (ho
       FailsLine tops content host line
   refused_fails line head is refuses = λ top inside top_is. head_at line heads tops head top are inside is top_is content host refuses
 
+  -- of a content that is shorter than each head says no line holds
+  pub none_is_first : (shortest : ℕ) → AreNoneShorter shortest heads → length content < shortest → IsFirst tops content host (length tops)
+  none_is_first shortest none_shorter short = record {
+    within = omega arith;
+    before = λ line below.
+        let inside : line < length heads = omega (arith, line_heads-length heads tops are, below) in
+        let head : LineHead = get_or heads line no_head in
+        let is : head ≡ get_or heads line head = get_or_default heads line no_head head inside in
+        refused_fails line head is (inl (omega (arith, short, none_shorter line no_head inside)));
+    holds = λ fewer. absurd (omega (arith, fewer));
+  }
+
   module _ (bytes : AreBytes content) (tables : Tables) where
     -- a head with one place refuses a content in which another byte stands there
     differs : (head : LineHead) → head.range ≡ 1 → 0 < head.size →
         (head.start < length content → get_or content head.start 0 ≡ head.first → ⊥) → RefusesContent head content
-    differs head one known differ = record {
+    differs head one known differ = inr (record {
       known = known;
       bytes = bytes;
       lacks = λ place low high fits shown.
           let at : place ≡ head.start = omega arith in
           differ (omega arith) (rw at at shown.first);
-    }
+    })
 
     -- a line that is found, at the byte that stands at its place or at another
     found_fails : (line until : ℕ) (head : LineHead) → head ≡ get_or heads line head → line < until →

@@ -3,6 +3,7 @@ use Rattle.std.proofs.Common.{◌≡◌, ℕ, zero, suc, ◌+◌, ◌<◌, ◌�
 use Rattle.std.proofs.Common.{bit_and, take, drop, refl, sym, ap, ap₂, ◌∙◌, arith, length-drop, subst}
 use Rattle.std.proofs.lemmas.Bool.{cases_lt, false_from_ne_true}
 use Rattle.std.proofs.lemmas.List.{get_or-drop, get_or-take, get_or_past, length-take-le}
+use Rattle.std.proofs.lemmas.List.Elements.{All-push, All-weaker}
 use Rattle.std.proofs.lemmas.Slice.Eq.{bytes_eq-Decides}
 use Rattle.mime_base.specs.Magic.Holds.{bytes_of_mask, equals_from}
 use Rattle.mime_base.specs.Magic.Masking.{in_host_order, under_mask, window_equals}
@@ -13,7 +14,7 @@ use Rattle.mime_base.proofs.MagicLemmas.HoldingLines.{equals_from-none, equals_f
 use Rattle.mime_base.proofs.MagicLemmas.Masks.{bits, get_or-under_mask, place}
 use Rattle.mime_base.proofs.MagicLemmas.Mirroring.{mirrors}
 use Rattle.mime_base.proofs.MagicLemmas.Skipping.{whole_byte, word_of_one}
-use Rattle.mime_lookup.specs.Heads.{AreBytes, AreLineHeads, IsHead, IsHeadOf, KeepsBytes, ShowsBytes}
+use Rattle.mime_lookup.specs.Heads.{AreBytes, AreLineHeads, AreNoneShorter, IsHead, IsHeadOf, KeepsBytes, ShowsBytes}
 use Rattle.mime_lookup.specs.TopLines.{PlainTop}
 use Rattle.mime_lookup.specs.declared.indexed.line_head.LineHead.{LineHead}
 
@@ -119,3 +120,10 @@ line_heads-length [] [] are = refl
 line_heads-length [] (_ ∷ _) are = absurd are
 line_heads-length (_ ∷ _) [] are = absurd are
 line_heads-length (h ∷ heads) (t ∷ tops) are = ap suc (line_heads-length heads tops are.1)
+
+-- a head more, of which `least` bytes are no more than it says
+pub none_shorter-more : (heads : List LineHead) (head : LineHead) (shortest least : ℕ) → least ≤ shortest → least ≤ head.start + head.size →
+    AreNoneShorter shortest heads → AreNoneShorter least (heads ++ head ∷ [])
+none_shorter-more heads head shortest least less here are =
+    All-push (λ (h : LineHead). least ≤ h.start + h.size) heads head
+    (All-weaker (λ (h : LineHead). shortest ≤ h.start + h.size) (λ (h : LineHead). least ≤ h.start + h.size) (λ h more. omega (arith, less, more)) heads are) here

@@ -26,12 +26,15 @@ pub fn first_line<S: MagicLines<L>, L: Drop>(
     meter: &mut Meter,
 ) -> usize
     // Each line has its head, and is found by its place and its byte, or is asked by itself.
-    requires found { AreFound heads.now.lines.items heads.now.tables (plain_tops (S.plain heads.now.source) heads.now.tops.items) }
+    requires found { AreFound heads.now.lines.items heads.now.tables heads.now.shortest (plain_tops (S.plain heads.now.source) heads.now.tops.items) }
     // No line before it holds, and it does, if there is one.
     ensures first { IsFirst (plain_tops (S.plain heads.now.source) heads.now.tops.items) content.now host result }
     // No record of a cache is visited.
     ensures nodes { meter.new.nodes ≡ meter.old.nodes }
 {
+    if content.len() < heads.shortest {
+        return heads.tops.len();
+    }
     meter.add_bytes(content.len().min(FRONT) as u64);
     let noted = NotedPairs::new(content);
     let asked = LineSearch {

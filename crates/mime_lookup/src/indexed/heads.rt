@@ -24,6 +24,8 @@ pub struct Heads<'a, S, L> {
     pub tops: Vec<TopLine<'a, L>>,
     /// Where they are found by a place and a byte.
     pub tables: Tables,
+    /// No line holds for a content of fewer bytes.
+    pub shortest: usize,
 }
 
 /// The top lines of some sections with their heads.
@@ -36,12 +38,15 @@ pub fn heads_of<'a, S: MagicLines<L>, L: Drop>(
     ensures tops { IfOk result (λ heads. plain_tops (S.plain heads.source) heads.tops.items
         ≡ plain_tops (S.plain source) tops.entry.items) }
     // Each has its head, and is found by its place and its byte, or is asked by itself.
-    ensures found { IfOk result (λ heads. AreFound heads.lines.items heads.tables
+    ensures found { IfOk result (λ heads. AreFound heads.lines.items heads.tables heads.shortest
         (plain_tops (S.plain heads.source) heads.tops.items)) }
 {
     let mut lines = Vec::with_capacity(alloc, tops.len())?;
+    let mut shortest = usize::MAX;
     for top in &tops {
-        lines.push(source.head(&top.line))?;
+        let head = source.head(&top.line);
+        shortest = shortest.min(head.least_length());
+        lines.push(head)?;
     }
     let tables = tables_of(alloc, &lines)?;
     Ok(Heads {
@@ -49,5 +54,6 @@ pub fn heads_of<'a, S: MagicLines<L>, L: Drop>(
         source,
         tops,
         tables,
+        shortest,
     })
 }

@@ -4,7 +4,7 @@
 //! count. A line holds for no content in which they stand together at none of its offsets. Where no such bytes are
 //! known, the head refuses nothing, and the line is tried.
 
-ghost use Rattle.std.specs.Prelude.{◌≡◌, ◌<◌, ℕ, List, Option, length, slice_index, true};
+ghost use Rattle.std.specs.Prelude.{◌≡◌, ◌+◌, ◌<◌, ℕ, List, Option, length, slice_index, true};
 ghost use Rattle.mime_base.specs.Magic.{line_from};
 ghost use Rattle.mime_load.specs.Lent.{lent_mask};
 ghost use Rattle.mime_lookup.specs.Heads.{IsHead, KeepsBytes};
@@ -13,11 +13,11 @@ ghost use Rattle.mime_lookup.specs.Heads.{IsHead, KeepsBytes};
 /// their places differs from the value.
 #[derive(Clone, Copy, Debug)]
 pub struct LineHead {
-    /// The first offset that is tried.
+    /// The first offset that is tried; of a line that is to be tried, the least length of a content.
     pub start: u32,
     /// How many offsets are tried.
     pub range: u32,
-    /// How many bytes the value has; 0 where the line is to be tried on each content.
+    /// How many bytes the value has; 0 where the line is to be tried on each content that is long enough.
     pub size: u16,
     /// Where in the value the later pair begins. A value that ends before its second byte has no pairs.
     pub skip: u8,
@@ -36,6 +36,16 @@ const LONGEST: usize = 65_535;
 
 /// The later pair of a value begins before this place of it.
 const NEAR: u8 = 16;
+
+impl LineHead {
+    /// The least length of a content that it doesn't refuse for its length.
+    pub fn least_length(&self) -> usize
+        // It is where the first window ends.
+        ensures { result ≡ self.now.start + self.now.size }
+    {
+        self.start as usize + usize::from(self.size)
+    }
+}
 
 /// A head that refuses nothing.
 pub const UNKNOWN: LineHead = LineHead {
@@ -60,7 +70,7 @@ pub fn head_of(start: u32, range: u32, word: u32, value: &[u8], mask: Option<&[u
     if keeps_bytes(mask, skip) {
         return head_from(start, range, word, value, skip);
     }
-    UNKNOWN
+    tried(start, value)
 }
 
 /// Where the later pair of a line's value begins: under a mask with its first byte.
@@ -115,7 +125,7 @@ fn head_from(start: u32, range: u32, word: u32, value: &[u8], skip: u8) -> LineH
         → IsHead result (line_from start range word value.now mask) }
 {
     if word != 1 || value.is_empty() || value.len() > LONGEST {
-        return UNKNOWN;
+        return tried(start, value);
     }
     let later = usize::from(skip);
     LineHead {
@@ -127,6 +137,17 @@ fn head_from(start: u32, range: u32, word: u32, value: &[u8], skip: u8) -> LineH
         second: byte_at(value, 1),
         third: byte_at(value, later),
         fourth: byte_at(value, later + 1),
+    }
+}
+
+/// The head of a line that is to be tried on each content that is long enough.
+fn tried(start: u32, value: &[u8]) -> LineHead
+    ensures { (range word : ℕ) (mask : Option (List ℕ)) → IsHead result (line_from start range word value.now mask) }
+{
+    let size = value.len().min(LONGEST) as u32;
+    LineHead {
+        start: start.saturating_add(size),
+        ..UNKNOWN
     }
 }
 

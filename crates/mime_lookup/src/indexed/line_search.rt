@@ -63,11 +63,11 @@ fn refuses(head: &LineHead, content: &NotedPairs<'_>, meter: &mut Meter) -> bool
 {
     let bytes = content.bytes();
     let (start, size) = (head.start as usize, usize::from(head.size));
-    if size == 0 {
-        return false;
-    }
     if bytes.len() < start + size {
         return true;
+    }
+    if size == 0 {
+        return false;
     }
     if head.range == 1 {
         return differs_at(head, bytes, start);

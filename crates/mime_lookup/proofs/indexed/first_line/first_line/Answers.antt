@@ -1,7 +1,8 @@
-use Rattle.std.proofs.Common.{length, sym, ap, ◌∙◌, arith}
+use Rattle.std.proofs.Common.{◌≡◌, length, sym, subst, ap, ◌∙◌, arith}
 use Rattle.std.proofs.lemmas.List.{length-map}
+use Rattle.mime_lookup.specs.Tables.{IsFirst}
 use Rattle.mime_lookup.specs.TopLines.{plain_top, plain_tops}
-use Rattle.mime_lookup.proofs.IndexLemmas.FoundLines.{is_first}
+use Rattle.mime_lookup.proofs.IndexLemmas.FoundLines.{is_first, none_is_first}
 use Rattle.mime_lookup.proofs.IndexLemmas.TopLines.{tops-length}
 use Rattle.mime_lookup.proofs.indexed.first_line.first_line.Goals as goal
 
@@ -21,3 +22,13 @@ returns-clause-first g c =
     (rw (c.deref-2.ensures.value, c.new-noted.ensures) at c.among_others.ensures.narrows)
     (rw (c.deref-2.ensures.value, c.new-noted.ensures) at c.among_tables-found.ensures.fail)
     (rw (c.deref-2.ensures.value, c.new-noted.ensures, c.deref-3.ensures.value) at c.among_others.ensures.fail)
+
+pub returns-then-content-heads-clause-first : goal.returns-then-content-heads-clause-first
+returns-then-content-heads-clause-first g c =
+    let heads = c.args.heads.now in
+    let tops = plain_tops (g.S.MagicLines.plain heads.source) heads.tops.items in
+    let all : length tops ≡ c.len.result =
+    omega (arith, length-map heads.tops.items (plain_top (g.S.MagicLines.plain heads.source)), c.len.ensures) in
+    subst (IsFirst tops c.args.content.now c.args.host) all
+    (none_is_first heads.lines.items tops c.args.content.now c.args.host c.requires.found.headed heads.shortest c.requires.found.none_shorter
+    (omega (arith, c.if-content-heads.true)))

@@ -1,7 +1,7 @@
-use Rattle.std.proofs.Common.{◌≡◌, ◌+◌, [], ◌∷◌, ◌++◌, map, take, sym, ap, ◌∙◌}
+use Rattle.std.proofs.Common.{◌≡◌, ◌+◌, [], ◌∷◌, ◌++◌, map, take, sym, ap, ◌∙◌, arith}
 use Rattle.std.proofs.lemmas.List.{map_more}
 use Rattle.mime_lookup.specs.TopLines.{plain_top}
-use Rattle.mime_lookup.proofs.IndexLemmas.LineHeads.{line_heads-more}
+use Rattle.mime_lookup.proofs.IndexLemmas.LineHeads.{line_heads-more, none_shorter-more}
 use Rattle.mime_lookup.proofs.indexed.heads.heads_of.Goals as goal
 
 pub loop-top-preserved : goal.loop-top-preserved
@@ -12,5 +12,11 @@ loop-top-preserved g c =
     let i = c.loop-top.top-index in
     let more : map plain (take (i + 1) tops) ≡ map plain (take i tops) ++ plain top ∷ [] =
     map_more plain tops i top c.loop-top-test.true ∙ ap (λ t. map plain (take i tops) ++ plain t ∷ []) (sym c.top-item.is) in
-    rw (c.in_ok-push.ensures.items, more)
-    (line_heads-more c.loop-top.lines.items (map plain (take i tops)) c.head.result (plain top) c.loop-top.invariant c.head.ensures)
+    let before = c.loop-top.invariant in
+    record {
+      headed = rw (c.in_ok-push.ensures.items, more)
+          (line_heads-more c.loop-top.lines.items (map plain (take i tops)) c.head-head.result (plain top) before.headed c.head-head.ensures);
+      none_shorter = rw c.in_ok-push.ensures.items
+          (none_shorter-more c.loop-top.lines.items c.head-head.result c.loop-top.shortest _
+          (omega (arith, c.min-shortest.ensures)) (omega (arith, c.min-shortest.ensures, c.least_length.ensures)) before.none_shorter);
+    }

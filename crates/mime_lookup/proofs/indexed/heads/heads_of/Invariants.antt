@@ -1,7 +1,10 @@
 use Rattle.std.proofs.Common.{take}
-use Rattle.mime_lookup.specs.Heads.{AreLineHeads}
+use Rattle.mime_lookup.specs.Heads.{AreLineHeads, AreNoneShorter}
 use Rattle.mime_lookup.specs.TopLines.{plain_tops}
 use Rattle.mime_lookup.proofs.indexed.heads.heads_of.Given as goal
 
 abbrev pub invariant-loop-top : goal.invariant-loop-top
-invariant-loop-top g l = AreLineHeads l.lines.items (plain_tops (g.S.MagicLines.plain l.source) (take l.top-index l.top-items))
+invariant-loop-top g l = record {
+  headed : AreLineHeads l.lines.items (plain_tops (g.S.MagicLines.plain l.source) (take l.top-index l.top-items));
+  none_shorter : AreNoneShorter l.shortest l.lines.items;
+}
