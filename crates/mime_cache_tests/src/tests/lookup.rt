@@ -10,6 +10,7 @@ mod indexed;
 mod limits;
 mod magic;
 mod magic_index;
+mod near_front;
 mod pieces;
 mod reads;
 mod sample;

@@ -11,7 +11,7 @@ ghost use Rattle.mime_lookup.specs.TopLines.{plain_tops};
 use crate::indexed::heads::Heads;
 use crate::indexed::line_search::{LineSearch, line_holds};
 use crate::indexed::magic_line::MagicLines;
-use crate::indexed::noted_pairs::{FRONT, NotedPairs};
+use crate::indexed::noted_pairs::{FRONT, NOWHERE, NUMBERS, NotedPairs, note_pairs};
 use crate::indexed::tables::Tables;
 use mime_base::{Host, Meter};
 
@@ -36,7 +36,9 @@ pub fn first_line<S: MagicLines<L>, L: Drop>(
         return heads.tops.len();
     }
     meter.add_bytes(content.len().min(FRONT) as u64);
-    let noted = NotedPairs::new(content);
+    let mut places = [NOWHERE; NUMBERS];
+    note_pairs(content, &mut places);
+    let noted = NotedPairs::new(content, &places);
     let asked = LineSearch {
         heads: &heads.lines,
         source: &heads.source,

@@ -3,7 +3,8 @@
 //! A value of two bytes and more is sought at the offsets of a range only if its pairs may stand there: of each pair it
 //! is noted once where it stands first, by a number that few other pairs have.
 
-ghost use Rattle.std.specs.Prelude.{◌≡◌, ℕ, ◌+◌, ◌*◌, ◌<◌, length, slice_index, true};
+ghost use Rattle.std.specs.Prelude.{◌≡◌, ℕ, ◌+◌, ◌*◌, ◌<◌, ◌≤◌, length, slice_index, true};
+ghost use Rattle.mime_lookup.specs.Pairs.{NotesPairs};
 
 use std::marker::Model;
 
@@ -11,7 +12,13 @@ use std::marker::Model;
 pub const FRONT: usize = 288;
 
 /// How many numbers pairs have.
-const NUMBERS: usize = 2296;
+pub const NUMBERS: usize = 2296;
+
+/// What is noted of a number that no pair in the front has.
+pub const NOWHERE: u8 = 255;
+
+/// What is noted of the places from this one on.
+const LAST: usize = 254;
 
 /// A content, with the places at which pairs of bytes first stand near its front.
 #[derive(Drop)]
@@ -19,7 +26,7 @@ pub struct NotedPairs<'c> {
     /// All bytes of the content.
     bytes: &'c [u8],
     /// Of each number a place before which no pair that has it stands in the front.
-    places: [u16; NUMBERS],
+    places: &'c [u8; NUMBERS],
 }
 
 impl<'c> Model for NotedPairs<'c> {
@@ -30,7 +37,7 @@ impl<'c> Model for NotedPairs<'c> {
 
     ghost view = { λ noted. noted.bytes.now };
 
-    ghost invariant = { λ noted. NotesPairs 0 noted.places noted.bytes.now
+    ghost invariant = { λ noted. NotesPairs 0 noted.places.now noted.bytes.now
         × ((place : ℕ) → slice_index noted.bytes.now place < 256) };
 }
 
@@ -43,18 +50,44 @@ fn pair_number(first: u8, second: u8) -> usize
     usize::from(first) * 8 + usize::from(second)
 }
 
+/// Notes where each pair in the front of some bytes first stands.
+// The places are the caller's, so that they are not moved.
+#[inline(always)]
+pub fn note_pairs(bytes: &[u8], places: &mut [u8; NUMBERS])
+    // Where a pair stands, a place is noted under its number that is no later.
+    ensures { NotesPairs 0 places.new bytes.now }
+{
+    let mut place = note_far(bytes, places);
+    while place > 0 {
+        place -= 1;
+        places[pair_number(bytes[place], bytes[place + 1])] = place as u8;
+    }
+}
+
+/// Notes the pairs at the last places of the front, and returns where they begin.
+#[inline(always)]
+fn note_far(bytes: &[u8], places: &mut [u8; NUMBERS]) -> usize
+    ensures place { result ≤ 254 }
+    ensures inside { 0 < result → result < length bytes.now }
+    ensures notes { NotesPairs result places.new bytes.now }
+{
+    let mut place = bytes.len().saturating_sub(1).min(FRONT);
+    while place > LAST {
+        place -= 1;
+        places[pair_number(bytes[place], bytes[place + 1])] = LAST as u8;
+    }
+    place
+}
+
 impl<'c> NotedPairs<'c> {
-    /// The content of these bytes.
-    pub fn new(bytes: &'c [u8]) -> NotedPairs<'c>
+    /// The content of these bytes, of which the pairs were noted.
+    #[inline(always)]
+    pub fn new(bytes: &'c [u8], places: &'c [u8; NUMBERS]) -> NotedPairs<'c>
+        // They were noted.
+        requires { NotesPairs 0 places.now bytes.now }
         // It has just these bytes.
         ensures { result ≡ bytes.now }
     {
-        let mut places = [FRONT as u16; NUMBERS];
-        let mut place = bytes.len().saturating_sub(1).min(FRONT);
-        while place > 0 {
-            place -= 1;
-            places[pair_number(bytes[place], bytes[place + 1])] = place as u16;
-        }
         NotedPairs { bytes, places }
     }
 
@@ -76,6 +109,7 @@ impl<'c> NotedPairs<'c> {
         ensures { result ≡ true → (place : ℕ) → place < end → place + 1 < length self.now
             → slice_index self.now place ≡ first → slice_index self.now (place + 1) ≡ second → ⊥ }
     {
-        end <= FRONT && end <= usize::from(self.places[pair_number(first, second)])
+        let noted = self.places[pair_number(first, second)];
+        end <= FRONT && (noted == NOWHERE || end <= usize::from(noted))
     }
 }

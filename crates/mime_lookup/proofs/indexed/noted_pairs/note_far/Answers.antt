@@ -1,12 +1,12 @@
 use Rattle.std.proofs.Common.{◌≡◌, ℕ, ◌+◌, ◌-◌, ◌∙◌, arith}
-use Rattle.std.proofs.lemmas.List.{length-replicate, length-set}
+use Rattle.std.proofs.lemmas.List.{length-set}
 use Rattle.mime_lookup.specs.Pairs.{NotesPairs}
 use Rattle.mime_lookup.proofs.IndexLemmas.NotedPairs.{pairs_more}
-use Rattle.mime_lookup.proofs.indexed.noted_pairs.NotedPairs.new.Goals as goal
+use Rattle.mime_lookup.proofs.indexed.noted_pairs.note_far.Goals as goal
 
 pub loop-place-init : goal.loop-place-init
 loop-place-init c = record {
-  size = length-replicate {A = ℕ} 2296 288;
+  size = c.told-places;
   notes = record { no_later = λ place from front inside. absurd (omega (arith, c.min-place.ensures, c.saturating_sub.ensures)) };
   front = omega (arith, c.min-place.ensures);
   inside = λ some. omega (arith, some, c.min-place.ensures, c.saturating_sub.ensures);
@@ -15,14 +15,14 @@ loop-place-init c = record {
 pub loop-place-preserved : goal.loop-place-preserved
 loop-place-preserved c =
     let place : ℕ = c.loop-place.place - 1 in
-    let next : place + 1 ≡ c.loop-place.place = omega arith in
+    let next : place + 1 ≡ c.loop-place.place = omega (arith, c.loop-place-test.true) in
     let later : NotesPairs (place + 1) c.loop-place.places c.args.bytes.now = rw next c.loop-place.invariant.notes in
     let number : ℕ = c.pair_number.result in
     record {
-      size = length-set c.loop-place.places number place ∙ c.loop-place.invariant.size;
+      size = length-set c.loop-place.places number 254 ∙ c.loop-place.invariant.size;
       notes =
-          pairs_more place number c.loop-place.places c.args.bytes.now c.pair_number.ensures.number
-          (omega (arith, c.loop-place.invariant.size, c.pair_number.ensures.inside)) later;
-      front = omega arith;
-      inside = λ _. omega (arith, c.loop-place.invariant.inside);
+          pairs_more place number 254 c.loop-place.places c.args.bytes.now (omega (arith, c.loop-place-test.true)) (omega arith)
+          c.pair_number.ensures.number (omega (arith, c.loop-place.invariant.size, c.pair_number.ensures.inside)) later;
+      front = omega (arith, c.loop-place.invariant.front);
+      inside = λ _. omega (arith, c.loop-place.invariant.inside, c.loop-place-test.true);
     }
