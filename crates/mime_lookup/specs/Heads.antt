@@ -37,7 +37,7 @@ pub record LacksBytes (head : LineHead) (content : List ℕ) : Type 0 where
 abbrev pub RefusesContent : LineHead → List ℕ → Type 0
 RefusesContent head content = (length content < head.start + head.size) ⊎ LacksBytes head content
 
--- no head says of less than `shortest` bytes that a content has enough
+-- each head refuses a content of fewer than `shortest` bytes
 abbrev pub AreNoneShorter : ℕ → List LineHead → Type 0
 AreNoneShorter shortest heads = All (λ head. shortest ≤ head.start + head.size) heads
 

@@ -11,6 +11,7 @@ use Rattle.mime_base.specs.declared.magic.matchlet.Matchlet.{Matchlet}
 use Rattle.mime_load.specs.declared.line.LentLine.{LentLine}
 use Rattle.mime_lookup.specs.CheckingOrder.{read_limit}
 use Rattle.mime_lookup.specs.Heads.{AreLineHeads, AreNoneShorter}
+use Rattle.mime_lookup.specs.Pairs.{ArePaired}
 use Rattle.mime_lookup.specs.Places.{ArePlaced}
 use Rattle.mime_lookup.specs.Tables.{AreTables}
 use Rattle.mime_lookup.specs.TopLines.{PlainTop, lent_matchlet, lent_top, plain_tops, top_lines}
@@ -31,11 +32,12 @@ unaliased_rule aliases rule =
 pub record AreUnaliased (names : List GlobRule) (database : Database) : Type 0 where
   pub are : names ≡ map (unaliased_rule (plain_pairs database.aliases.items)) database.rules.items
 
--- Each line of indent 0 has its head, and is found by its place and its byte, or is asked by itself; of a content with fewer bytes
--- than `shortest` none is asked.
-pub record AreFound (heads : List LineHead) (tables : Tables) (shortest : ℕ) (tops : List PlainTop) : Type 0 where
+-- Each line of indent 0 has its head, and is found by its place and its byte, or is asked by itself, mostly by a pair; of a content with
+-- fewer bytes than `shortest` none is asked.
+pub record AreFound (heads : List LineHead) (tables : Tables) (pairs : List ℕ) (shortest : ℕ) (tops : List PlainTop) : Type 0 where
   pub headed : AreLineHeads heads tops
   pub tabled : AreTables tables heads 0
+  pub paired : ArePaired pairs tables.others.items heads
   pub none_shorter : AreNoneShorter shortest heads
 
 -- an index of these sections of magic: it has their lines of indent 0, in their order, each with the type and the priority of its section
@@ -48,7 +50,7 @@ pub record IsIndexOf (database : Database) (names : List GlobRule) (pairs : Plac
   pub placed : ArePlaced pairs
   pub aliases : pairs.aliases.pairs.now ≡ database.aliases.items
   pub parents : pairs.parents.pairs.now ≡ database.parents.items
-  pub found : AreFound heads.lines.items heads.tables heads.shortest (plain_tops lent_matchlet heads.tops.items)
+  pub found : AreFound heads.lines.items heads.tables heads.pairs.items heads.shortest (plain_tops lent_matchlet heads.tops.items)
   pub whole : plain_tops lent_matchlet heads.tops.items ≡ top_lines (plain_sections database.sections.items)
   pub limits : limit ≡ read_limit (plain_database database)
   pub some : 0 < limit

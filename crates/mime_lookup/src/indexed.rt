@@ -14,6 +14,7 @@ pub mod look_up;
 pub mod magic_index;
 pub mod magic_line;
 pub mod noted_pairs;
+pub mod other_pairs;
 pub mod rules;
 pub mod sniff;
 pub mod subclass;

@@ -126,4 +126,5 @@ pub none_shorter-more : (heads : List LineHead) (head : LineHead) (shortest leas
     AreNoneShorter shortest heads → AreNoneShorter least (heads ++ head ∷ [])
 none_shorter-more heads head shortest least less here are =
     All-push (λ (h : LineHead). least ≤ h.start + h.size) heads head
-    (All-weaker (λ (h : LineHead). shortest ≤ h.start + h.size) (λ (h : LineHead). least ≤ h.start + h.size) (λ h more. omega (arith, less, more)) heads are) here
+    (All-weaker (λ (h : LineHead). shortest ≤ h.start + h.size) (λ (h : LineHead). least ≤ h.start + h.size)
+    (λ h more. omega (arith, less, more)) heads are) here

@@ -2,10 +2,11 @@
 //!
 //! The lowest number of a line that was found to hold is kept, and no line after it is asked.
 
-ghost use Rattle.std.specs.Prelude.{◌≡◌, ◌*◌, ◌≤◌, length};
+ghost use Rattle.std.specs.Prelude.{◌≡◌, ◌*◌, ◌<◌, ◌≤◌, length, true, false};
 ghost use Rattle.mime_lookup.specs.Heads.{AreLineHeads};
 ghost use Rattle.mime_lookup.specs.Indexed.{AreFound};
-ghost use Rattle.mime_lookup.specs.Tables.{ChainFails, HasTable, IsFirst, Narrows, OthersFail, TableFails, TablesFail};
+ghost use Rattle.mime_lookup.specs.Pairs.{ArePaired, IsPairAt};
+ghost use Rattle.mime_lookup.specs.Tables.{ChainFails, FailsLine, HasTable, Holds, IsFirst, Narrows, OthersFail, TableFails, TablesFail};
 ghost use Rattle.mime_lookup.specs.TopLines.{plain_tops};
 
 use crate::indexed::heads::Heads;
@@ -26,7 +27,8 @@ pub fn first_line<S: MagicLines<L>, L: Drop>(
     meter: &mut Meter,
 ) -> usize
     // Each line has its head, and is found by its place and its byte, or is asked by itself.
-    requires found { AreFound heads.now.lines.items heads.now.tables heads.now.shortest (plain_tops (S.plain heads.now.source) heads.now.tops.items) }
+    requires found { AreFound heads.now.lines.items heads.now.tables heads.now.pairs.items heads.now.shortest
+        (plain_tops (S.plain heads.now.source) heads.now.tops.items) }
     // No line before it holds, and it does, if there is one.
     ensures first { IsFirst (plain_tops (S.plain heads.now.source) heads.now.tops.items) content.now host result }
     // No record of a cache is visited.
@@ -47,7 +49,7 @@ pub fn first_line<S: MagicLines<L>, L: Drop>(
         host,
     };
     let found = among_tables(&heads.tables, &asked, meter);
-    among_others(&heads.tables.others, &asked, found, meter)
+    among_others(&heads.tables.others, &heads.pairs, &asked, found, meter)
 }
 
 /// The first line of those that the tables name that holds, else the number of lines.
@@ -129,10 +131,12 @@ fn in_chain<S: MagicLines<L>, L: Drop>(
 /// The first line of the others, before `until`, that holds, else `until`.
 fn among_others<S: MagicLines<L>, L: Drop>(
     others: &[usize],
+    pairs: &[u16],
     asked: &LineSearch<'_, S, L>,
     until: usize,
     meter: &mut Meter,
 ) -> usize
+    requires paired { ArePaired pairs.now others.now asked.now.heads.now }
     requires headed { AreLineHeads asked.now.heads.now (plain_tops (S.plain asked.now.source.now) asked.now.tops.now) }
     requires until { until ≤ length asked.now.tops.now }
     ensures narrows { Narrows (plain_tops (S.plain asked.now.source.now) asked.now.tops.now) asked.now.content.now asked.now.host until result }
@@ -143,10 +147,32 @@ fn among_others<S: MagicLines<L>, L: Drop>(
     let (mut first, mut at) = (until, others.len());
     while at > 0 {
         at -= 1;
-        let line = others[at];
-        if line < first && line_holds(asked, line, meter) {
-            first = line;
+        if other_holds(asked, pairs[at], others[at], first, meter) {
+            first = others[at];
         }
     }
     first
+}
+
+/// Whether a line before `until` holds, of which a content has this pair near its front if it does.
+#[inline(always)]
+fn other_holds<S: MagicLines<L>, L: Drop>(
+    asked: &LineSearch<'_, S, L>,
+    pair: u16,
+    line: usize,
+    until: usize,
+    meter: &mut Meter,
+) -> bool
+    requires headed { AreLineHeads asked.now.heads.now (plain_tops (S.plain asked.now.source.now) asked.now.tops.now) }
+    requires paired { IsPairAt pair asked.now.heads.now line }
+    requires until { until ≤ length asked.now.tops.now }
+    ensures before { result ≡ true → line < until }
+    ensures holds { result ≡ true → Holds (plain_tops (S.plain asked.now.source.now) asked.now.tops.now) asked.now.content.now asked.now.host line }
+    ensures fails { result ≡ false → line < until → FailsLine (plain_tops (S.plain asked.now.source.now) asked.now.tops.now) asked.now.content.now asked.now.host line }
+    ensures nodes { meter.new.nodes ≡ meter.old.nodes }
+{
+    if !asked.content.may_have(pair) {
+        return false;
+    }
+    line < until && line_holds(asked, line, meter)
 }

@@ -8,6 +8,7 @@ ghost use Rattle.mime_lookup.specs.TopLines.{plain_tops};
 
 use crate::indexed::line_head::LineHead;
 use crate::indexed::magic_line::MagicLines;
+use crate::indexed::other_pairs::pairs_of;
 use crate::indexed::tables::{Tables, tables_of};
 use crate::indexed::top_line::TopLine;
 use mime_base::OutOfMemory;
@@ -24,6 +25,8 @@ pub struct Heads<'a, S, L> {
     pub tops: Vec<TopLine<'a, L>>,
     /// Where they are found by a place and a byte.
     pub tables: Tables,
+    /// Of each line that is asked by itself the number of a pair of its head, if it has one near the front.
+    pub pairs: Vec<u16>,
     /// No line holds for a content of fewer bytes.
     pub shortest: usize,
 }
@@ -38,7 +41,7 @@ pub fn heads_of<'a, S: MagicLines<L>, L: Drop>(
     ensures tops { IfOk result (λ heads. plain_tops (S.plain heads.source) heads.tops.items
         ≡ plain_tops (S.plain source) tops.entry.items) }
     // Each has its head, and is found by its place and its byte, or is asked by itself.
-    ensures found { IfOk result (λ heads. AreFound heads.lines.items heads.tables heads.shortest
+    ensures found { IfOk result (λ heads. AreFound heads.lines.items heads.tables heads.pairs.items heads.shortest
         (plain_tops (S.plain heads.source) heads.tops.items)) }
 {
     let mut lines = Vec::with_capacity(alloc, tops.len())?;
@@ -49,11 +52,13 @@ pub fn heads_of<'a, S: MagicLines<L>, L: Drop>(
         lines.push(head)?;
     }
     let tables = tables_of(alloc, &lines)?;
+    let pairs = pairs_of(alloc, &lines, &tables.others)?;
     Ok(Heads {
         lines,
         source,
         tops,
         tables,
+        pairs,
         shortest,
     })
 }

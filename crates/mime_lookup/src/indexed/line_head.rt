@@ -2,7 +2,7 @@
 //!
 //! A head has four bytes of a line's value: the two that it begins with, and a later pair, where all bits of them
 //! count. A line holds for no content in which they stand together at none of its offsets. Where no such bytes are
-//! known, the head refuses nothing, and the line is tried.
+//! known, the head refuses only a content that is too short for the value, and the line is tried on all others.
 
 ghost use Rattle.std.specs.Prelude.{◌≡◌, ◌+◌, ◌<◌, ℕ, List, Option, length, slice_index, true};
 ghost use Rattle.mime_base.specs.Magic.{line_from};

@@ -49,7 +49,7 @@ impl<'a> Model for MagicIndex<'a> {
 
     ghost view = { λ index. (index.heads.source.items, index.heads.tops.items) };
 
-    ghost invariant = { λ index. AreFound index.heads.lines.items index.heads.tables index.heads.shortest
+    ghost invariant = { λ index. AreFound index.heads.lines.items index.heads.tables index.heads.pairs.items index.heads.shortest
         (plain_tops (lent_top index.heads.source.items) index.heads.tops.items) };
 }
 

@@ -3,8 +3,8 @@
 //! A value of two bytes and more is sought at the offsets of a range only if its pairs may stand there: of each pair it
 //! is noted once where it stands first, by a number that few other pairs have.
 
-ghost use Rattle.std.specs.Prelude.{◌≡◌, ℕ, ◌+◌, ◌*◌, ◌<◌, ◌≤◌, length, slice_index, true};
-ghost use Rattle.mime_lookup.specs.Pairs.{NotesPairs};
+ghost use Rattle.std.specs.Prelude.{◌≡◌, ℕ, ◌+◌, ◌*◌, ◌<◌, ◌≤◌, length, slice_index, true, false};
+ghost use Rattle.mime_lookup.specs.Pairs.{LacksNumber, NotesPairs};
 
 use std::marker::Model;
 
@@ -43,8 +43,10 @@ impl<'c> Model for NotedPairs<'c> {
 
 /// The number of a pair.
 #[inline(always)]
-fn pair_number(first: u8, second: u8) -> usize
+pub fn pair_number(first: u8, second: u8) -> usize
+    // Few other pairs have it.
     ensures number { result ≡ first * 8 + second }
+    // It is less than so many.
     ensures inside { result < 2296 }
 {
     usize::from(first) * 8 + usize::from(second)
@@ -100,6 +102,18 @@ impl<'c> NotedPairs<'c> {
         ensures bytes { (place : ℕ) → slice_index result.now place < 256 }
     {
         self.bytes
+    }
+
+    /// Whether a pair with this number may stand near the front; so may one with a number that no pair has.
+    #[inline(always)]
+    pub fn may_have(&self, number: u16) -> bool
+        // Where it says not, none does.
+        ensures lacks { result ≡ false → (number < 2296) × LacksNumber number self.now }
+        // Each byte of the content is less than 256.
+        ensures bytes { (place : ℕ) → slice_index self.now place < 256 }
+    {
+        let number = usize::from(number);
+        number >= NUMBERS || self.places[number] != NOWHERE
     }
 
     /// Whether a pair of bytes stands at no place before `end`, as far as that is noted.

@@ -21,7 +21,8 @@ pub fn first_section<'a, S: MagicLines<L>, L: Drop>(
     meter: &mut Meter,
 ) -> Option<(&'a [u8], u32)>
     // Each line has its head, and is found by its place and its byte, or is asked by itself.
-    requires found { AreFound heads.now.lines.items heads.now.tables heads.now.shortest (plain_tops (S.plain heads.now.source) heads.now.tops.items) }
+    requires found { AreFound heads.now.lines.items heads.now.tables heads.now.pairs.items heads.now.shortest
+        (plain_tops (S.plain heads.now.source) heads.now.tops.items) }
     // Of sections with these lines of indent 0 it is the first that holds.
     ensures first { (sections : List PlainSection) → plain_tops (S.plain heads.now.source) heads.now.tops.items ≡ top_lines sections
         → plain_found result ≡ first_magic sections content.now host }

@@ -30,5 +30,6 @@ returns-then-content-heads-clause-first g c =
     let all : length tops ≡ c.len.result =
     omega (arith, length-map heads.tops.items (plain_top (g.S.MagicLines.plain heads.source)), c.len.ensures) in
     subst (IsFirst tops c.args.content.now c.args.host) all
-    (none_is_first heads.lines.items tops c.args.content.now c.args.host c.requires.found.headed heads.shortest c.requires.found.none_shorter
+    (none_is_first heads.lines.items tops c.args.content.now c.args.host c.requires.found.headed heads.shortest
+    c.requires.found.none_shorter
     (omega (arith, c.if-content-heads.true)))

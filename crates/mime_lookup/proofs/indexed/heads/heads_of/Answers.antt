@@ -1,5 +1,6 @@
-use Rattle.std.proofs.Common.{◌≡◌, ◌+◌, [], ◌∷◌, ◌++◌, map, take, sym, ap, ◌∙◌, arith}
-use Rattle.std.proofs.lemmas.List.{map_more}
+use Rattle.std.proofs.Common.{◌≡◌, ◌+◌, [], ◌∷◌, ◌++◌, map, take, sym, subst, ap, ◌∙◌, arith}
+use Rattle.std.proofs.lemmas.List.{map_more, take_all}
+use Rattle.mime_lookup.specs.Heads.{AreLineHeads}
 use Rattle.mime_lookup.specs.TopLines.{plain_top}
 use Rattle.mime_lookup.proofs.IndexLemmas.LineHeads.{line_heads-more, none_shorter-more}
 use Rattle.mime_lookup.proofs.indexed.heads.heads_of.Goals as goal
@@ -15,8 +16,21 @@ loop-top-preserved g c =
     let before = c.loop-top.invariant in
     record {
       headed = rw (c.in_ok-push.ensures.items, more)
-          (line_heads-more c.loop-top.lines.items (map plain (take i tops)) c.head-head.result (plain top) before.headed c.head-head.ensures);
+          (line_heads-more c.loop-top.lines.items (map plain (take i tops)) c.head-head.result (plain top) before.headed
+          c.head-head.ensures);
       none_shorter = rw c.in_ok-push.ensures.items
           (none_shorter-more c.loop-top.lines.items c.head-head.result c.loop-top.shortest _
           (omega (arith, c.min-shortest.ensures)) (omega (arith, c.min-shortest.ensures, c.least_length.ensures)) before.none_shorter);
     }
+
+pub returns-clause-found : goal.returns-clause-found
+returns-clause-found g c = record {
+  headed =
+      let items = c.deref-top-items.result.now in
+      let all : take c.loop-top.top-index items ≡ items = take_all c.loop-top.top-index items (omega (arith, c.loop-top-test.false)) in
+      subst (λ ts. AreLineHeads c.loop-top.lines.items (map (plain_top (g.S.MagicLines.plain c.args.source)) ts))
+      (all ∙ c.deref-top-items.ensures.value) c.loop-top.invariant.headed;
+  tabled = rw c.deref.ensures.value at c.in_ok-tables.ensures;
+  paired = rw (c.deref-2.ensures.value, c.deref-3.ensures.value) at c.in_ok-pairs.ensures;
+  none_shorter = c.loop-top.invariant.none_shorter;
+}

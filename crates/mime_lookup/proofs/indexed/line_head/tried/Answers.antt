@@ -1,4 +1,4 @@
-use Rattle.std.proofs.Common.{◌≤◌, arith, inl, inr}
+use Rattle.std.proofs.Common.{arith, inl, inr}
 use Rattle.mime_base.specs.Magic.{line_from}
 use Rattle.mime_base.proofs.MagicLemmas.HoldingLines.{equals_from-outside}
 use Rattle.mime_lookup.proofs.indexed.line_head.tried.Goals as goal

@@ -13,8 +13,8 @@ loop-place-preserved c =
     record {
       size = length-set c.loop-place.places number place ∙ c.loop-place.invariant.size;
       notes =
-          pairs_more place number place c.loop-place.places c.args.bytes.now (omega arith) (omega (arith, next, c.loop-place.invariant.front))
-          c.pair_number.ensures.number (omega (arith, c.loop-place.invariant.size, c.pair_number.ensures.inside)) later;
+          pairs_more place number place c.loop-place.places c.args.bytes.now (omega arith)
+          (omega (arith, next, c.loop-place.invariant.front)) c.pair_number.ensures.number (omega (arith, c.loop-place.invariant.size, c.pair_number.ensures.inside)) later;
       front = omega (arith, c.loop-place.invariant.front);
       inside = λ _. omega (arith, c.loop-place.invariant.inside, c.loop-place-test.true);
     }
