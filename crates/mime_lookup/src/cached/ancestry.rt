@@ -3,7 +3,8 @@
 //! It goes breadth first over a queue, as the search over lists does. Each entry of the parent list that it
 //! expands is marked, and the marks serve all candidates of a lookup: after a search that found nothing, no
 //! marked type leads to the base, so no entry is expanded twice. Over damaged bytes it ends since each type
-//! that enters the queue takes a record of the budget.
+//! that enters the queue takes a record of the budget. Where the pairs were read back, and a walk would not be
+//! spent, a climb comes first, which takes nothing.
 
 ghost use Rattle.std.specs.Prelude.{◌≡◌, ◌⊎◌, ◌+◌, ◌*◌, ◌≤◌, ◌∷◌, ◌++◌};
 ghost use Rattle.std.specs.Prelude.{Contains, length, map, IfErr, IfOk, MatchResult, OnOk};
@@ -18,8 +19,10 @@ ghost use Rattle.mime_lookup.specs.StepFaults.{IsAliasFault, IsSearchFault};
 ghost use Rattle.mime_view.specs.Spending.{Looks, Spends};
 
 use crate::cached::indexed_cache::IndexedCache;
+use crate::climb::{Climbed, climb};
 use crate::queue::Queue;
 use crate::subclass::is_by_itself;
+use mime_base::Meter;
 use mime_view::{CacheFault, Marks, Spending};
 use std::alloc::Global;
 
@@ -48,14 +51,46 @@ pub fn first_of<'a>(
 {
     let mut marks = Marks::new(alloc);
     for kind in kinds {
-        if leads_to(alloc, indexed, &mut marks, *kind, base, spending)? {
+        if climbs_to(alloc, indexed, &mut marks, *kind, base, spending)? {
             return Ok(*kind);
         }
     }
     Ok(default)
 }
 
-/// Whether a type is the base or a subclass of it, unless a marked type is.
+/// Whether a type is the base or a subclass of it, unless a marked type is: by the pairs that were read back, and by a walk from a type
+/// that has several parents.
+pub fn climbs_to<'k, 'a: 'k>(
+    alloc: Global,
+    indexed: &IndexedCache<'a>,
+    marks: &mut Marks,
+    kind: &'k [u8],
+    base: &[u8],
+    spending: &mut Spending,
+) -> Result<bool, CacheFault>
+    // Any text of the cache and any type name is this short.
+    requires base { length base.now ≤ 255 }
+    // Where the pairs stand, it says whether the type leads to the base, unless a marked type does.
+    ensures answer { AnswersMarked indexed.now kind.entry.now base.now marks.old marks.new result }
+    // There no more records are taken than there are pairs of the types that it marks.
+    ensures takes { TakesMarked indexed.now marks.old marks.new spending.old spending.new result }
+    // The parents of a type, an alias step or memory shows the fault.
+    ensures fault { IfErr result (IsSearchFault indexed.now spending.new.budget) }
+    // It costs 29 nodes, and 59 for each record that it takes.
+    ensures cost { Costs search_cost 0 29 spending.old spending.new }
+{
+    match indexed.pairs() {
+        Some(pairs) if indexed.has_room_for_search(spending) => {
+            match climb(pairs, kind, base, &mut Meter::new()) {
+                Climbed::Found(is) => Ok(is),
+                Climbed::Open(here) => leads_to(alloc, indexed, marks, here, base, spending),
+            }
+        }
+        _ => leads_to(alloc, indexed, marks, kind, base, spending),
+    }
+}
+
+/// The same by a walk.
 pub fn leads_to<'k, 'a: 'k>(
     alloc: Global,
     indexed: &IndexedCache<'a>,

@@ -6,7 +6,7 @@ ghost use Rattle.mime_base.specs.Database.Subclass.{IsA};
 ghost use Rattle.mime_base.specs.Format.Packed.{Packed};
 ghost use Rattle.mime_lookup.specs.Spelling.{SpellsPairs};
 
-use crate::cached::ancestry::leads_to;
+use crate::cached::ancestry::climbs_to;
 use crate::cached::indexed_cache::IndexedCache;
 use mime_base::Meter;
 use mime_view::{CacheFault, Marks, Spending};
@@ -33,5 +33,5 @@ pub fn is_below<'k, 'a: 'k>(
         meter: Meter::new(),
         budget: indexed.budget(),
     };
-    leads_to(alloc, indexed, &mut marks, kind, base, &mut spending)
+    climbs_to(alloc, indexed, &mut marks, kind, base, &mut spending)
 }

@@ -59,7 +59,8 @@ pub fn by_content<'a>(
     ensures cost { Costs (record_cost (length question.now.name.now)) (front_length (bytes_of front.entry) + 1)
         (30 + owed_nodes (length question.now.name.now) candidates.entry) spending.old spending.new }
 {
-    let is_last = leaves_no_search(&candidates, indexed.has_names());
+    let is_last = leaves_no_search(&candidates, indexed.has_names())
+        || indexed.has_room_for_search(spending);
     let finding = indexed.sniff_front(front, question.host, is_last, spending)?;
     match candidates {
         Candidates::Kept(kinds) => {

@@ -34,7 +34,7 @@ use crate::cached::name_types::{NameTypes, types_of};
 use crate::cached::sniff::{Finding, sniff_front, sniff_indexed};
 use crate::indexed::magic_index::MagicIndex;
 use crate::read_back::icons::IndexedIcons;
-use crate::read_back::name_types::types_of as types_indexed;
+use crate::read_back::name_types::{IndexedTypes, types_of as types_indexed};
 use crate::read_back::names::IndexedNames;
 use crate::read_back::pairs::IndexedPairs;
 use mime_base::{Counted, Host, Meter};
@@ -161,6 +161,17 @@ impl<'a> IndexedCache<'a> {
         Ok(())
     }
 
+    /// The glob rules and the aliases, where they were read back.
+    pub(crate) fn names(&self) -> Option<&IndexedNames<'a>>
+        // They are those of the cache.
+        ensures { IfSome result (λ names. names.now ≡ self.now) }
+    {
+        match &self.names {
+            Some(names) => Some(names),
+            None => None,
+        }
+    }
+
     /// The aliases and the parents, where they were read back.
     pub(crate) fn pairs(&self) -> Option<&IndexedPairs<'a>>
         // They are those of the cache.
@@ -259,10 +270,32 @@ impl<'a> IndexedCache<'a> {
         self.cache.length() / 16 <= spending.budget.records
     }
 
+    /// Whether the pairs were read back, and a walk of all that indexes take the place of is never spent: of the rules, whose records have
+    /// twelve bytes and are taken twice at most, of the magic, and of the pairs.
+    pub fn has_room_for_search(&self, spending: &Spending) -> bool {
+        let length = self.cache.length();
+        match &self.pairs {
+            Some(pairs) => length / 6 + length / 16
+                <= spending.budget.records.saturating_sub(pairs.count()),
+            None => false,
+        }
+    }
+
+    /// Which types of a name an index may give: what is walked after them takes of the budget what a walk for them leaves.
+    fn indexed_types(&self, is_last: bool, spending: &Spending) -> IndexedTypes {
+        if !is_last && self.magic.is_none() {
+            IndexedTypes::One
+        } else if self.has_room_for_search(spending) {
+            IndexedTypes::Any
+        } else {
+            IndexedTypes::AtMostOne
+        }
+    }
+
     /// The types of a name that are kept, or of all rules that match it, as one where all are one type.
     ///
-    /// They go by the index where there is one type, or none and no content is looked at after them, or by an index: what is taken of the
-    /// budget after a walk for them goes by what that leaves.
+    /// They go by the index where there is one type, or none and no content is looked at after them, or by an index, or several and the
+    /// search among them goes by an index too: what is taken of the budget after a walk for them goes by what that leaves.
     // Always inlined, so that the types are not moved.
     #[inline(always)]
     pub fn types_of(
@@ -291,7 +324,7 @@ impl<'a> IndexedCache<'a> {
                 alloc,
                 &self.cache,
                 names,
-                is_last || self.magic.is_some(),
+                self.indexed_types(is_last, spending),
                 name,
                 which,
                 spending,

@@ -1,6 +1,6 @@
 //! The types of a name by the rules of a cache that were read back.
 
-ghost use Rattle.std.specs.Prelude.{◌≡◌, ◌≤◌, length, true, IfErr, IfOk};
+ghost use Rattle.std.specs.Prelude.{◌≡◌, ◌*◌, ◌≤◌, length, true, IfErr, IfOk};
 ghost use Rattle.mime_base.specs.Database.{PlainDatabase};
 ghost use Rattle.mime_lookup.specs.Cached.{AreCacheTexts};
 ghost use Rattle.mime_lookup.specs.Costs.{CostsOwing, glob_cost, record_cost};
@@ -16,15 +16,26 @@ use mime_base::Meter;
 use mime_view::{Cache, CacheFault, NameHits, Spending, Which};
 use std::alloc::Global;
 
+/// Which types of a name an index may give.
+#[derive(Clone, Copy)]
+pub enum IndexedTypes {
+    /// One alone.
+    One,
+    /// One, or none.
+    AtMostOne,
+    /// Any.
+    Any,
+}
+
 /// The types of a name as [`crate::cached::name_types::types_of`] gives them, by the rules that were read back.
 ///
-/// They take nothing of the budget. So the cache is asked where a search among several types comes after them, and where there is none,
-/// unless a content is sniffed by an index then: these go by what a walk for types leaves.
+/// They take nothing of the budget, and the halving that they leave out pays for a search among them. Where an index may not give them, or
+/// there are more of them than that pays for, the cache is asked.
 pub fn types_of<'a>(
     alloc: Global,
     cache: &Cache<'a>,
     names: &IndexedNames<'a>,
-    allows_none: bool,
+    indexed: IndexedTypes,
     name: &[u8],
     which: Which,
     spending: &mut Spending,
@@ -46,7 +57,7 @@ pub fn types_of<'a>(
 {
     let hits = names.types(alloc, name, which)?;
     let types = hits.kinds.as_slice();
-    if !is_alone(types.len(), allows_none) {
+    if !may_give(indexed, types.len(), name) {
         return cached_types_of(alloc, cache, name, which, spending);
     }
     let mut meter = Meter::new();
@@ -57,9 +68,15 @@ pub fn types_of<'a>(
     Ok(NameTypes::Others(hits.kinds, asked))
 }
 
-/// Whether nothing of the budget is taken after so many types.
-fn is_alone(count: usize, allows_none: bool) -> bool
-    ensures { result ≡ true → count ≤ 1 }
+/// Whether an index may give so many types of a name, and the halving that a walk does for it pays for a search among them: 29 nodes for
+/// each.
+fn may_give(indexed: IndexedTypes, count: usize, name: &[u8]) -> bool
+    requires { length name.now ≤ 4096 }
+    ensures { result ≡ true → 29 * count ≤ glob_cost (length name.now) }
 {
-    count == 1 || (count == 0 && allows_none)
+    match indexed {
+        IndexedTypes::One => count == 1,
+        IndexedTypes::AtMostOne => count <= 1,
+        IndexedTypes::Any => count <= 2 * name.len() + 2,
+    }
 }

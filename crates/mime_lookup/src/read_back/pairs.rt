@@ -27,6 +27,8 @@ pub struct IndexedPairs<'a> {
     targets: NameMap<'a, &'a [u8]>,
     /// What is one step above each type that has a parent.
     steps: NameMap<'a, Above<'a>>,
+    /// How many pairs of a type and a parent there are.
+    count: u64,
 }
 
 impl<'a> Model for IndexedPairs<'a> {
@@ -59,7 +61,13 @@ impl<'a> IndexedPairs<'a> {
             counted,
             targets,
             steps,
+            count: lists.parents.len() as u64,
         })
+    }
+
+    /// How many pairs of a type and a parent there are.
+    pub fn count(&self) -> u64 {
+        self.count
     }
 
     /// A type after one alias step.

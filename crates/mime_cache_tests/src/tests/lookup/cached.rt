@@ -13,6 +13,7 @@ mod names;
 mod orders;
 mod paid;
 mod readers;
+mod several;
 mod subclasses;
 
 use super::{Outcome, outcome_of};

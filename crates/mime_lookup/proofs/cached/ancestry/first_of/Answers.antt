@@ -23,20 +23,20 @@ loop-kind-init c =
 pub loop-kind-preserved : goal.loop-kind-preserved
 loop-kind-preserved c = record {
   settled = λ b spells.
-      (c.in_ok-leads_to.ensures.answer b spells).marked (c.loop-kind.invariant.settled b spells) c.if-branch.false;
+      (c.in_ok-climbs_to.ensures.answer b spells).marked (c.loop-kind.invariant.settled b spells) c.if-branch.false;
   rest = λ b spells answer rest.
       c.loop-kind.invariant.rest b spells answer
       (passed_over (pairs_of b) c.args.base.now c.args.default.now c.args.kinds.now c.loop-kind.kind-index _ c.loop-kind-test.true
-      (λ is_a. true≢false (sym (((c.in_ok-leads_to.ensures.answer b spells).answer (c.loop-kind.invariant.settled b spells)).1 is_a)
+      (λ is_a. true≢false (sym (((c.in_ok-climbs_to.ensures.answer b spells).answer (c.loop-kind.invariant.settled b spells)).1 is_a)
       ∙ c.if-branch.false))
       answer rest);
-  owed = λ b spells. omega (arith, c.loop-kind.invariant.owed b spells, (c.in_ok-leads_to.ensures.takes b spells).owed);
-  cost = costs_then (29 * (c.loop-kind.kind-index + 1)) c.loop-kind.invariant.cost c.leads_to.ensures.cost (omega arith);
+  owed = λ b spells. omega (arith, c.loop-kind.invariant.owed b spells, (c.in_ok-climbs_to.ensures.takes b spells).owed);
+  cost = costs_then (29 * (c.loop-kind.kind-index + 1)) c.loop-kind.invariant.cost c.climbs_to.ensures.cost (omega arith);
 }
 
-pub returns-in_err-leads_to-clause-cost : goal.returns-in_err-leads_to-clause-cost
-returns-in_err-leads_to-clause-cost c =
-    costs_then (29 * length c.args.kinds.now) c.loop-kind.invariant.cost c.leads_to.ensures.cost
+pub returns-in_err-climbs_to-clause-cost : goal.returns-in_err-climbs_to-clause-cost
+returns-in_err-climbs_to-clause-cost c =
+    costs_then (29 * length c.args.kinds.now) c.loop-kind.invariant.cost c.climbs_to.ensures.cost
     (omega (arith, c.loop-kind-test.true))
 
 pub returns-then-branch-clause-one : goal.returns-then-branch-clause-one
@@ -45,7 +45,7 @@ returns-then-branch-clause-one c =
 
 pub returns-then-branch-clause-cost : goal.returns-then-branch-clause-cost
 returns-then-branch-clause-cost c =
-    costs_then (29 * length c.args.kinds.now) c.loop-kind.invariant.cost c.leads_to.ensures.cost
+    costs_then (29 * length c.args.kinds.now) c.loop-kind.invariant.cost c.climbs_to.ensures.cost
     (omega (arith, c.loop-kind-test.true))
 
 pub returns-clause-cost : goal.returns-clause-cost

@@ -11,9 +11,9 @@ pub returns-clause-answer : goal.returns-clause-answer
 returns-clause-answer c = λ b spells.
     let none : NoneLeadsTo (marked_by c.args.indexed.now c.new-marks.result) (pairs_of b) c.args.base.now =
     rw c.new-marks.ensures (λ kind is is_a. cc (marked-none c.args.indexed.now (field c.args.indexed.now 0 2) kind, is)) in
-    (c.leads_to.ensures.answer b spells).answer none
+    (c.climbs_to.ensures.answer b spells).answer none
 
 pub returns-clause-need : goal.returns-clause-need
 returns-clause-need c = λ b spells packed.
     let most = unmarked_most b.parents (marked_by c.args.indexed.now c.new-marks.result) in
-    (c.leads_to.ensures.takes b spells).need (omega (arith, most, packed.records, c.budget.ensures.records))
+    (c.climbs_to.ensures.takes b spells).need (omega (arith, most, packed.records, c.budget.ensures.records))
