@@ -1,14 +1,16 @@
 -- The rules of a name that a cache's own budget gives, and how C gets them.
 use Rattle.std.proofs.Common.{◌≡◌, ℕ, ◌+◌, ◌-◌, ◌/◌, ◌<◌, ◌≤◌, List, ◌++◌, length, map, take, drop, get_or, Result, Ok, Err}
 use Rattle.std.proofs.Common.{Bool, true, false, ltb, refl, ap, ◌∙◌, inl, arith}
-use Rattle.std.specs.Prelude.{IfErr}
+use Rattle.std.specs.Prelude.{All, IfErr, IfOk}
 use Rattle.std.proofs.lemmas.Bool.{ltb-false, ltb-true}
 use Rattle.std.proofs.lemmas.List.{get_or-append_right, get_or-drop, get_or-map, get_or-take, get_or_append_left}
 use Rattle.std.proofs.lemmas.List.{length-append, length-drop, length-map, length-take, length-take-le}
 use Rattle.mime_base.specs.declared.database.rule.GlobRule.{GlobRule}
 use Rattle.mime_c.specs.Hits.{GivenHit, IsHits, given, given_hits, one_if}
 use Rattle.mime_view.specs.NameHits.{GivesHits, GivesTexts, IsHitsFault, SpellsRules, lists_of}
-use Rattle.mime_view.specs.RuleHits.{AreRuleHits, gives_types}
+use Rattle.mime_lookup.specs.Cached.{IsCacheText}
+use Rattle.mime_view.specs.RuleHits.{AreRuleHits, gives_types, types_alone}
+use Rattle.mime_view.specs.declared.budget.Budget.{Budget}
 use Rattle.mime_view.specs.declared.fault.CacheFault.{CacheFault}
 use Rattle.mime_view.specs.declared.rule_hits.RuleHit.{RuleHit}
 use Rattle.mime_view.specs.declared.rule_hits.RuleHits.{RuleHits}
@@ -84,4 +86,27 @@ is_hits c name old new (Err e) records gives texts fault = record {
   count = tt;
   front = tt;
   fault = (new.budget, fault);
+}
+
+-- what a database that is open gives of a name is promised too
+pub is_open_hits : (c name : List ℕ) (old new : Budget) (result : Result RuleHits CacheFault) → old.records ≡ length c / 4 →
+    ((rules : List GlobRule) → SpellsRules c rules → GivesHits AreRuleHits name rules old new result) →
+    IfOk result (λ hits. All (IsCacheText c) (types_alone hits).kinds) → IfOk result (λ hits. length hits.rules.items ≤ old.records) →
+    IfOk result (λ hits. hits.kept ≤ length hits.rules.items) → IfErr result (IsHitsFault c (lists_of c) name new) →
+    IsHits c name result
+is_open_hits c name old new (Ok hits) records gives texts count front fault = record {
+  answer = λ b spells fits. (gives b.rules spells).answer fits;
+  need = λ b spells fits packed. tt;
+  texts = texts;
+  count = omega (arith, count, records);
+  front = front;
+  fault = tt;
+}
+is_open_hits c name old new (Err e) records gives texts count front fault = record {
+  answer = λ b spells fits. tt;
+  need = λ b spells fits packed. (gives b.rules spells).need fits (inl (omega (arith, packed.records, records)));
+  texts = tt;
+  count = tt;
+  front = tt;
+  fault = (new, fault);
 }

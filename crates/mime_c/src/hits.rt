@@ -118,18 +118,15 @@ fn ask<'a>(
     }
 }
 
-/// The same over an opened cache.
-pub(crate) fn hits_of<'a>(
+// The same over an opened cache.
+fn hits_of<'a>(
     alloc: Global,
     opened: &Cache<'a>,
     name: &[u8],
     meter: &mut Meter,
 ) -> Result<RuleHits<'a>, CacheFault>
-    // A call refuses longer names.
     requires short { length name.now ≤ 4096 }
-    // They are the rules that match.
     ensures promises { IsHits opened.now name.now result }
-    // It visits and compares no more than this.
     ensures cost { Looks (hits_nodes (length name.now) (length opened.now) - 1) (hits_bytes (length name.now) (length opened.now))
         meter.old meter.new }
 {

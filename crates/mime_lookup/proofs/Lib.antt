@@ -1,3 +1,4 @@
+pub mod HitLemmas
 pub mod OrderLemmas
 pub mod ContentLemmas
 pub mod AncestryLemmas

@@ -1,5 +1,5 @@
 -- The nodes of an index that a lookup counts at most: steps along the name, and rules near it. This project's own.
-use Rattle.std.specs.Prelude.{ℕ, ◌+◌, Bool, if◌then◌else◌, nat_lt, List, length, filter}
+use Rattle.std.specs.Prelude.{ℕ, Bool, if◌then◌else◌, nat_lt, List, length, filter}
 use Rattle.mime_base.specs.Kept.{hits}
 use Rattle.mime_base.specs.declared.database.rule.GlobRule.{GlobRule}
 use Rattle.mime_lookup.specs.declared.order.Order.{Order}
@@ -19,12 +19,12 @@ kept_nodes rules name = near_nodes (length name) (if has_text rules name then ne
 abbrev pub all_nodes : List GlobRule → List ℕ → ℕ
 all_nodes rules name = near_nodes (length name) (near_rules name rules)
 
--- for an order, by these two and by whether the globs suffice; where the content alone is asked none
-abbrev pub order_nodes : Order → Bool → ℕ → ℕ → ℕ
-order_nodes GlobsFirst suffice kept all = kept
-order_nodes MagicFirst suffice kept all = kept
-order_nodes AllGlobs suffice kept all = if suffice then all else all + kept
-order_nodes ContentOnly suffice kept all = 0
+-- for an order, by these two; where the content alone is asked none
+abbrev pub order_nodes : Order → ℕ → ℕ → ℕ
+order_nodes GlobsFirst kept all = kept
+order_nodes MagicFirst kept all = kept
+order_nodes AllGlobs kept all = all
+order_nodes ContentOnly kept all = 0
 
 -- of these those before the content is asked
 abbrev pub nodes_before : Order → ℕ → ℕ → ℕ
@@ -32,3 +32,10 @@ nodes_before GlobsFirst kept all = kept
 nodes_before MagicFirst kept all = 0
 nodes_before AllGlobs kept all = all
 nodes_before ContentOnly kept all = 0
+
+-- and those after it, where it was asked first
+abbrev pub nodes_after : Order → ℕ → ℕ
+nodes_after GlobsFirst kept = 0
+nodes_after MagicFirst kept = kept
+nodes_after AllGlobs kept = 0
+nodes_after ContentOnly kept = kept

@@ -22,15 +22,17 @@ use Rattle.mime_lookup.specs.declared.indexed.magic_line.Matchlets.{Matchlets}
 use Rattle.mime_lookup.specs.declared.indexed.tables.Tables.{Tables}
 use Rattle.mime_lookup.specs.declared.indexed.top_line.TopLine.{TopLine}
 use Rattle.mime_lookup.specs.declared.places.PlacedPairs.{PlacedPairs}
+use Rattle.mime_names.specs.Index.{PlainIndex}
 
 -- a rule whose type went one alias step
 abbrev pub unaliased_rule : List (List ℕ × List ℕ) → GlobRule → GlobRule
 unaliased_rule aliases rule =
     record { weight = rule.weight; kind = resolved aliases rule.kind; pattern = rule.pattern; cased = rule.cased }
 
--- the rules of an index are a database's, each with its type after one alias step
-pub record AreUnaliased (names : List GlobRule) (database : Database) : Type 0 where
-  pub are : names ≡ map (unaliased_rule (plain_pairs database.aliases.items)) database.rules.items
+-- the rules of an index are a database's, and give their types after one alias step
+pub record AreUnaliased (names : PlainIndex) (database : Database) : Type 0 where
+  pub are : names.given ≡ map (unaliased_rule (plain_pairs database.aliases.items)) database.rules.items
+  pub own : names.own ≡ database.rules.items
 
 -- Each line of indent 0 has its head, and is found by its place and its byte, or is asked by itself, mostly by a pair; of a content with
 -- fewer bytes than `shortest` none is asked.
@@ -45,7 +47,7 @@ abbrev pub IsMagicIndex : List LentLine × List (TopLine LentTop) → List Plain
 IsMagicIndex index sections = plain_tops (lent_top index.0) index.1 ≡ top_lines sections
 
 -- the index of a database's rules, the places of its pairs, the heads of its lines, and how much of a content is read at most
-pub record IsIndexOf (database : Database) (names : List GlobRule) (pairs : PlacedPairs) (heads : Heads Matchlets (Bor Matchlet)) (limit : ℕ) : Type 0 where
+pub record IsIndexOf (database : Database) (names : PlainIndex) (pairs : PlacedPairs) (heads : Heads Matchlets (Bor Matchlet)) (limit : ℕ) : Type 0 where
   pub named : AreUnaliased names database
   pub placed : ArePlaced pairs
   pub aliases : pairs.aliases.pairs.now ≡ database.aliases.items

@@ -14,6 +14,7 @@ use Rattle.mime_lookup.specs.NameMap.{IsNameMap, value_in}
 use Rattle.mime_lookup.specs.NameTypes.{types_for}
 use Rattle.mime_lookup.specs.Spelling.{SpellsGlobs}
 use Rattle.mime_lookup.specs.declared.name_map.NameMap.{NameMap}
+use Rattle.mime_names.specs.Index.{PlainIndex}
 use Rattle.mime_view.specs.declared.name_hits.NameHits.{NameHits}
 use Rattle.mime_view.specs.declared.name_hits.Which.{Which}
 
@@ -45,14 +46,16 @@ pub record AreTargetsOf (c : List ℕ) (targets : NameMap (Bor (List ℕ))) : Ty
   -- Each type goes one alias step by the targets.
   pub are : AreTargets aliases targets
 
--- Rules are those of a cache, each with its type after one alias step.
-pub record AreRulesReadBack (c : List ℕ) (rules : List GlobRule) : Type 0 where
+-- The rules of an index are those of a cache, and give their types after one alias step.
+pub record AreRulesReadBack (c : List ℕ) (index : PlainIndex) : Type 0 where
   -- What the cache spells.
   pub database : PlainDatabase
   -- It does.
   pub spelled : SpellsGlobs c database
+  -- They give the types of its rules.
+  pub are : index.given ≡ map (unaliased_rule database.aliases) database.rules
   -- They are its rules.
-  pub are : rules ≡ map (unaliased_rule database.aliases) database.rules
+  pub own : index.own ≡ database.rules
 
 -- The types of the rules that are asked for, and how many of these are kept.
 pub record AreTypesOf (which : Which) (b : PlainDatabase) (name : List ℕ) (hits : NameHits) : Type 0 where

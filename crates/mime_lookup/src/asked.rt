@@ -3,7 +3,7 @@
 //! Whoever answers it says which database that is: `lists` tries every rule, line and pair of one, `indexed` looks
 //! where an index says. The order itself is in `checking`, and what a content is sniffed as in `sniff`.
 
-ghost use Rattle.std.specs.Prelude.{◌≡◌, ◌+◌, ◌<◌, ◌≤◌, ℕ, List, IfOk};
+ghost use Rattle.std.specs.Prelude.{◌≡◌, ◌+◌, ◌<◌, ◌≤◌, ℕ, List, length, IfOk};
 ghost use Rattle.std.specs.List.{All};
 ghost use Rattle.mime_base.specs.Database.{PlainDatabase, pairs_of};
 ghost use Rattle.mime_base.specs.Database.Subclass.{resolved};
@@ -15,6 +15,7 @@ ghost use Rattle.mime_lookup.specs.Choice.{IsFirst, candidates, kept};
 ghost use Rattle.mime_view.specs.Magic.{plain_found};
 
 use mime_base::{Host, Meter, OutOfMemory};
+use mime_names::RankedKinds;
 use std::alloc::Global;
 
 /// A database that the checking order asks.
@@ -41,16 +42,19 @@ pub trait Asked<'a> {
         // No more nodes are counted, and no record of a cache is visited.
         ensures nodes { meter.new.nodes ≤ meter.old.nodes + kept_nodes self.now name.now };
 
-    /// The types of all rules that match a name, by falling rank, each after one alias step.
+    /// The types of all rules that match a name, by falling rank, each after one alias step, and how many of these are kept.
     fn candidate_kinds(
         &self,
         alloc: Global,
         name: &[u8],
         meter: &mut Meter,
-    ) -> Result<Vec<&'a [u8]>, OutOfMemory>
+    ) -> Result<RankedKinds<'a>, OutOfMemory>
         // These are the types of all rules that match the name, each after one alias step.
-        ensures candidates { IfOk result (λ kinds. kinds_of kinds.items
+        ensures candidates { IfOk result (λ found. kinds_of found.kinds.items
             ≡ candidates (pairs_of (plain self.now)) (plain self.now).rules name.now) }
+        // As many of the first are kept as the types of the rules that are.
+        ensures count { IfOk result (λ found. found.kept
+            ≡ length (kept (pairs_of (plain self.now)) (plain self.now).rules name.now)) }
         // No more nodes are counted, and no record of a cache is visited.
         ensures nodes { meter.new.nodes ≤ meter.old.nodes + all_nodes self.now name.now };
 

@@ -4,18 +4,19 @@
 //! It is the same whoever answers what is asked, by trying all of a database or by an index of it.
 
 ghost use Rattle.std.specs.Prelude.{◌≡◌, ℕ, ◌+◌, ◌<◌, ◌≤◌, true, if◌then◌else◌, length, List, Option, None, Some};
-ghost use Rattle.std.specs.Prelude.{IfErr, IfOk, IfSome};
+ghost use Rattle.std.specs.Prelude.{All, IfErr, IfOk, IfSome};
 ghost use Rattle.mime_base.specs.Database.{PlainDatabase, pairs_of};
+ghost use Rattle.mime_base.specs.Kept.{FitsRank};
 ghost use Rattle.mime_base.specs.declared.magic.host.Host.{Host};
 ghost use Rattle.mime_lookup.specs.Ancestry.{kinds_of};
 ghost use Rattle.mime_lookup.specs.CheckingOrder.{IsSniffed, are_one_type, asked_types, before_globs, globs_suffice};
 ghost use Rattle.mime_lookup.specs.CheckingOrder.{has_magic, read_limit, types_before};
-ghost use Rattle.mime_lookup.specs.Choice.{ChoosesAmong};
+ghost use Rattle.mime_lookup.specs.Choice.{ChoosesAmong, kept};
 ghost use Rattle.mime_lookup.specs.Content.{known_content};
-ghost use Rattle.mime_lookup.specs.IndexNodes.{nodes_before, order_nodes};
+ghost use Rattle.mime_lookup.specs.IndexNodes.{nodes_after, nodes_before, order_nodes};
 ghost use Rattle.mime_lookup.specs.LookUps.{ChoosesSome, IsPlainAnswer, cause_in, meter_in, name_too_long, read_in};
 ghost use Rattle.mime_lookup.specs.Question.{ChoosesFor, ReadsFor};
-ghost use Rattle.mime_lookup.specs.declared.order.Order.TheVariants.{ContentOnly, GlobsFirst};
+ghost use Rattle.mime_lookup.specs.declared.order.Order.TheVariants.{AllGlobs, ContentOnly};
 ghost use Rattle.mime_lookup.specs.Reads.{AsksUnless, IsReadOrMemory, Reads, UsesReader};
 
 use crate::answer::Answer;
@@ -28,6 +29,7 @@ use crate::question::Question;
 use crate::sniff::{Sniffed, sniff_content};
 use crate::stopped::{Cause, Stopped};
 use mime_base::{Host, Meter, OutOfMemory};
+use mime_names::RankedKinds;
 use std::alloc::Global;
 
 /// The type that the checking order gives to a name and a content.
@@ -56,7 +58,7 @@ pub fn look_up_over<'a, A: Asked<'a>, R: Content>(
     ensures asks { AsksUnless R.health (globs_suffice (A.plain database.now) name.now order)
         content.old content.new (cause_in result) }
     // Of an index no more nodes are counted than the order allows, and no record of a cache is visited.
-    ensures nodes { (meter_in result).nodes ≤ order_nodes order (globs_suffice (A.plain database.now) name.now order)
+    ensures nodes { (meter_in result).nodes ≤ order_nodes order
         (A.kept_nodes database.now name.now) (A.all_nodes database.now name.now) }
 {
     let mut read = 0;
@@ -94,13 +96,12 @@ fn kind_of<'a, A: Asked<'a>, R: Content>(
         (globs_suffice (A.plain database.now) question.now.name.now question.now.order) content.old content.new read.new result }
     // Of an index no more nodes are counted than the order allows.
     ensures nodes { meter.new.nodes ≤ meter.old.nodes + order_nodes question.now.order
-        (globs_suffice (A.plain database.now) question.now.name.now question.now.order)
         (A.kept_nodes database.now question.now.name.now) (A.all_nodes database.now question.now.name.now) }
 {
     database.keeps_limits();
     let named = named_kinds(alloc, database, question, meter)?;
-    if are_one_type(&named) {
-        return Ok(named[0]);
+    if are_one_type(&named.kinds) {
+        return Ok(named.kinds[0]);
     }
     let sniffed = sniff_content(alloc, database, content, question.host, read, meter)?;
     if precedes_globs(question.order, &sniffed) {
@@ -112,24 +113,34 @@ fn kind_of<'a, A: Asked<'a>, R: Content>(
 }
 
 /// The types of a name that are asked before a content is: those of the kept rules or of all that match, and none
-/// where the content is asked first.
+/// where the content is asked first. It is said how many of these are kept.
 fn named_kinds<'a, A: Asked<'a>>(
     alloc: Global,
     database: &A,
     question: &Question<'_>,
     meter: &mut Meter,
-) -> Result<Vec<&'a [u8]>, OutOfMemory>
+) -> Result<RankedKinds<'a>, OutOfMemory>
     // These are the types that the order asks first.
-    ensures named { IfOk result (λ kinds. kinds_of kinds.items
+    ensures named { IfOk result (λ named. kinds_of named.kinds.items
         ≡ types_before (A.plain database.now) question.now.name.now question.now.order) }
+    // Of all that match the first are kept, as many as the types of the rules that are.
+    ensures count { question.now.order ≡ AllGlobs → IfOk result (λ named. named.kept
+        ≡ length (kept (pairs_of (A.plain database.now)) (A.plain database.now).rules question.now.name.now)) }
     // Of an index no more nodes are counted than for these.
     ensures nodes { meter.new.nodes ≤ meter.old.nodes + nodes_before question.now.order
         (A.kept_nodes database.now question.now.name.now) (A.all_nodes database.now question.now.name.now) }
 {
     match question.order {
-        Order::GlobsFirst => database.kept_kinds(alloc, question.name, meter),
+        Order::GlobsFirst => {
+            let kinds = database.kept_kinds(alloc, question.name, meter)?;
+            let kept = kinds.len();
+            Ok(RankedKinds { kinds, kept })
+        }
         Order::AllGlobs => database.candidate_kinds(alloc, question.name, meter),
-        Order::MagicFirst | Order::ContentOnly => Ok(Vec::new(alloc)),
+        Order::MagicFirst | Order::ContentOnly => {
+            let kinds = Vec::new(alloc);
+            Ok(RankedKinds { kinds, kept: 0 })
+        }
     }
 }
 
@@ -171,30 +182,35 @@ fn precedes_globs(order: Order, sniffed: &Sniffed<'_>) -> bool
 fn asked_kinds<'a, A: Asked<'a>>(
     alloc: Global,
     database: &A,
-    named: Vec<&'a [u8]>,
+    named: RankedKinds<'a>,
     question: &Question<'_>,
     by_magic: bool,
     meter: &mut Meter,
 ) -> Result<Vec<&'a [u8]>, OutOfMemory>
     // These are the types that the order asks first.
-    requires named { kinds_of named.items
+    requires named { kinds_of named.kinds.items
         ≡ types_before (A.plain database.now) question.now.name.now question.now.order }
+    // Of all that match the first are kept, as many as the types of the rules that are.
+    requires count { question.now.order ≡ AllGlobs → named.kept
+        ≡ length (kept (pairs_of (A.plain database.now)) (A.plain database.now).rules question.now.name.now) }
+    // The rules keep the limits of ranks.
+    requires limits { All FitsRank (A.plain database.now).rules }
     // These are the types that are asked for a content that magic sniffed, or didn't.
     ensures asked { (content : Option (List ℕ)) → by_magic ≡ has_magic (A.plain database.now) content question.now.host
         → IfOk result (λ asked. kinds_of asked.items
         ≡ asked_types (A.plain database.now) question.now.name.now content question.now.host question.now.order) }
-    // Of an index no more nodes are counted than for the kept rules.
-    ensures nodes { meter.new.nodes ≤ meter.old.nodes + A.kept_nodes database.now question.now.name.now }
-    // Where these were asked first they are not asked again.
-    ensures once { question.now.order ≡ GlobsFirst → meter.new.nodes ≡ meter.old.nodes }
+    // Of an index no more nodes are counted than for the kept rules, and none where types were asked first.
+    ensures nodes { meter.new.nodes ≤ meter.old.nodes
+        + nodes_after question.now.order (A.kept_nodes database.now question.now.name.now) }
 {
     match question.order {
-        Order::GlobsFirst => Ok(named),
+        Order::GlobsFirst => Ok(named.kinds),
         Order::AllGlobs => {
-            if by_magic {
-                return Ok(named);
+            let RankedKinds { mut kinds, kept } = named;
+            if !by_magic {
+                kinds.truncate(kept);
             }
-            database.kept_kinds(alloc, question.name, meter)
+            Ok(kinds)
         }
         Order::MagicFirst | Order::ContentOnly => {
             database.kept_kinds(alloc, question.name, meter)

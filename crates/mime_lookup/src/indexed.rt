@@ -6,6 +6,7 @@
 pub mod candidates;
 pub mod first_line;
 pub mod heads;
+pub mod hits;
 pub mod icons;
 pub mod kept;
 pub mod line_head;
@@ -44,7 +45,7 @@ use std::marker::Model;
 pub struct IndexedDatabase<'a> {
     /// The database.
     database: &'a Database,
-    /// The index of its rules, each with its type after one alias step.
+    /// The index of its rules, which give their types after one alias step.
     names: NameIndex<'a>,
     /// The places of its aliases and of its subclass pairs.
     pairs: PlacedPairs<'a>,

@@ -27,6 +27,7 @@ use mime_base::{
     Database, Host, Meter, OutOfMemory, Section, TEXTUAL_FRONT, database_keeps_limits, extent,
     some_line_matches,
 };
+use mime_names::RankedKinds;
 use std::alloc::Global;
 
 /// The type that the checking order gives to a name and a content ("Recommended checking order").
@@ -95,16 +96,19 @@ impl<'a> Asked<'a> for Lists<'a> {
         Ok(kinds)
     }
 
-    #[tactic(auto, unfolding(crate::specs::Choice::candidates))]
     fn candidate_kinds(
         &self,
         alloc: Global,
         name: &[u8],
         meter: &mut Meter,
-    ) -> Result<Vec<&'a [u8]>, OutOfMemory> {
-        let rules = candidate_rules(alloc, &self.database.rules, name, meter)?;
-        let kinds = kinds_of_rules(alloc, &self.database.aliases, &rules)?;
-        Ok(kinds)
+    ) -> Result<RankedKinds<'a>, OutOfMemory> {
+        self.keeps_limits();
+        let found = candidate_rules(alloc, &self.database.rules, name, meter)?;
+        let kinds = kinds_of_rules(alloc, &self.database.aliases, &found.rules)?;
+        Ok(RankedKinds {
+            kinds,
+            kept: found.kept,
+        })
     }
 
     fn first_section(

@@ -6,11 +6,9 @@ use Rattle.std.proofs.lemmas.List.{length-map, map-append}
 use Rattle.std.proofs.lemmas.List.Elements.{All-filter, All-map, All-weaker}
 use Rattle.std.proofs.lemmas.Simd.{map-map}
 use denote.Bor.{Bor}
-use Rattle.mime_base.specs.Falling.{falling}
-use Rattle.mime_base.specs.Kept.{FitsRank, best, candidate_rules, hits, kept_rules, of_greatest, rank_of_rule}
+use Rattle.mime_base.specs.Kept.{FitsRank, best, hits, kept_rules, of_greatest, rank_of_rule}
 use Rattle.mime_base.specs.Matching.Matches.{rule_matches}
 use Rattle.mime_base.specs.declared.database.rule.GlobRule.{GlobRule}
-use Rattle.mime_base.proofs.FallingLemmas.Order.{falling-map}
 use Rattle.mime_base.proofs.KeptLemmas.{of_greatest-rank_of_rule}
 use Rattle.mime_base.proofs.KeptLemmas.Greatest.{of_greatest-map, of_greatest-none}
 use Rattle.mime_names.specs.Index.{rules_of_index, texts_of}
@@ -96,19 +94,6 @@ module _ (patterns : List ℕ) (rules : List IndexedRule) (name : List ℕ) wher
   -- the hits of the plain rules
   hits-plain : hits (rules_of_index patterns rules) name ≡ map (plain patterns) (hits_of patterns (every patterns) rules name)
   hits-plain = filter-map (plain patterns) (λ rule. rule_matches rule.pattern rule.cased name) rules
-
-  -- the types of all by falling rank
-  pub candidates-kinds : texts_of (map (λ offer. offer.1) (falling (λ offer. offer.0) (map (offer_of patterns) (hits_of patterns (every patterns) rules name))))
-      ≡ map (λ rule. rule.kind) (candidate_rules (rules_of_index patterns rules) name)
-  unfolding candidate_rules
-  candidates-kinds =
-      let found = hits_of patterns (every patterns) rules name in
-      let rank = λ (rule : IndexedRule). rank_of_rule (plain patterns rule) in
-      ap (λ offers. texts_of (map (λ (offer : ℕ × Bor (List ℕ)). offer.1) offers)) (sym (falling-map (offer_of patterns) (λ (offer : ℕ × Bor (List ℕ)). offer.0) found))
-      ∙ ap texts_of (map-map (λ (offer : ℕ × Bor (List ℕ)). offer.1) (offer_of patterns) (falling rank found))
-      ∙ map-map (λ (kind : Bor (List ℕ)). kind.now) (λ (rule : IndexedRule). rule.kind) (falling rank found)
-      ∙ sym (map-map (λ (rule : GlobRule). rule.kind) (plain patterns) (falling rank found))
-      ∙ ap (map (λ (rule : GlobRule). rule.kind)) (falling-map (plain patterns) rank_of_rule found ∙ ap (falling rank_of_rule) (sym hits-plain))
 
   module _ (own : All (IsIndexedRule patterns) rules) where
     -- every hit has its room in a rank

@@ -6,7 +6,7 @@ use Rattle.std.proofs.lemmas.List.Elements.{All-push, All-weaker}
 use Rattle.std.proofs.Math.Seq.{drop-append_seam}
 use Rattle.mime_base.specs.Kept.{FitsRank, class_of, rank_of_rule}
 use Rattle.mime_base.specs.declared.database.rule.GlobRule.{GlobRule}
-use Rattle.mime_names.specs.Rules.{IsEntryOf, IsIndexedRule, pattern_of, plain, plain_named}
+use Rattle.mime_names.specs.Rules.{IsEntryOf, IsIndexedRule, own_named, own_plain, pattern_of, plain, plain_named}
 use Rattle.mime_names.specs.declared.indexed_rule.IndexedRule.{IndexedRule}
 use Rattle.mime_names.specs.declared.named_rule.NamedRule.{NamedRule}
 
@@ -25,6 +25,11 @@ module _ (old more : List ℕ) where
   plain-grows : (rule : IndexedRule) → IsIndexedRule old rule → plain (old ++ more) rule ≡ plain old rule
   plain-grows rule is = ap (with_pattern rule) (pattern-grows rule is.within)
 
+  -- with its own type too
+  own-grows : (rule : IndexedRule) → IsIndexedRule old rule → own_plain (old ++ more) rule ≡ own_plain old rule
+  own-grows rule is =
+      ap (λ pattern. record { weight = rule.weight; kind = rule.own_kind.now; pattern = pattern; cased = rule.cased }) (pattern-grows rule is.within)
+
   -- and what is found of the rule
   indexed-grows : (rule : IndexedRule) → IsIndexedRule old rule → IsIndexedRule (old ++ more) rule
   indexed-grows rule is = record {
@@ -34,12 +39,13 @@ module _ (old more : List ℕ) where
     fits = subst FitsRank (sym (plain-grows rule is)) is.fits;
   }
 
-  -- the plain values are what they were
-  plains-grow : (rules : List IndexedRule) → All (IsIndexedRule old) rules → map (plain (old ++ more)) rules ≡ map (plain old) rules
-  plains-grow [] own = refl
-  plains-grow (rule ∷ rest) own =
-      ap₂ (λ x xs. x ∷ xs) (plain-grows rule (own 0 rule (omega arith)))
-      (plains-grow rest (λ k other within. own (suc k) other (omega (arith, within))))
+  -- values are what they were, where each is
+  values-grow : (before after : IndexedRule → GlobRule) → ((rule : IndexedRule) → IsIndexedRule old rule → after rule ≡ before rule) →
+      (rules : List IndexedRule) → All (IsIndexedRule old) rules → map after rules ≡ map before rules
+  values-grow before after grows [] own = refl
+  values-grow before after grows (rule ∷ rest) own =
+      ap₂ (λ x xs. x ∷ xs) (grows rule (own 0 rule (omega arith)))
+      (values-grow before after grows rest (λ k other within. own (suc k) other (omega (arith, within))))
 
   -- one rule more
   pub rules-more : (rules : List IndexedRule) (rule : IndexedRule) → All (IsIndexedRule old) rules → IsIndexedRule (old ++ more) rule →
@@ -53,7 +59,15 @@ module _ (old more : List ℕ) where
       map (plain old) rules ≡ plains → plain (old ++ more) rule ≡ last → map (plain (old ++ more)) (rules ++ rule ∷ []) ≡ plains ++ last ∷ []
   plains-more rules rule plains last own are is =
       map-append (plain (old ++ more)) rules (rule ∷ [])
-      ∙ ap₂ (λ front own. front ++ own ∷ []) (plains-grow rules own ∙ are) is
+      ∙ ap₂ (λ front own. front ++ own ∷ []) (values-grow (plain old) (plain (old ++ more)) plain-grows rules own ∙ are) is
+
+  -- with its own type too
+  pub owns-more : (rules : List IndexedRule) (rule : IndexedRule) (plains : List GlobRule) (last : GlobRule) → All (IsIndexedRule old) rules →
+      map (own_plain old) rules ≡ plains → own_plain (old ++ more) rule ≡ last →
+      map (own_plain (old ++ more)) (rules ++ rule ∷ []) ≡ plains ++ last ∷ []
+  owns-more rules rule plains last own are is =
+      map-append (own_plain (old ++ more)) rules (rule ∷ [])
+      ∙ ap₂ (λ front own. front ++ own ∷ []) (values-grow (own_plain old) (own_plain (old ++ more)) own-grows rules own ∙ are) is
 
 module _ (old : List ℕ) (named : NamedRule) (rule : IndexedRule) (start : ℕ) (entry : IsEntryOf named start rule)
     (last : rule.start ≡ length old) where
@@ -67,6 +81,10 @@ module _ (old : List ℕ) (named : NamedRule) (rule : IndexedRule) (start : ℕ)
   -- its rule has the plain value of the one that it was made of
   pub plain-last : plain (old ++ named.pattern.now) rule ≡ plain_named named
   plain-last = λ k. record { weight = entry.weight k; kind = (entry.kind k).now; pattern = pattern-last k; cased = entry.cased k }
+
+  -- with its own type too
+  pub own-last : own_plain (old ++ named.pattern.now) rule ≡ own_named named
+  own-last = λ k. record { weight = entry.weight k; kind = (entry.own_kind k).now; pattern = pattern-last k; cased = entry.cased k }
 
   -- and is found as it is made
   pub indexed-last : FitsRank (plain_named named) → IsIndexedRule (old ++ named.pattern.now) rule

@@ -4,7 +4,7 @@ use Rattle.std.specs.Borrow.{Bor}
 use Rattle.std.specs.List.{All}
 use Rattle.mime_base.specs.declared.database.rule.GlobRule.{GlobRule}
 use Rattle.mime_names.specs.Keys.{IsTableOf}
-use Rattle.mime_names.specs.Rules.{IsIndexedRule, plain}
+use Rattle.mime_names.specs.Rules.{IsIndexedRule, own_plain, plain}
 use Rattle.mime_names.specs.declared.indexed_rule.IndexedRule.{IndexedRule}
 use Rattle.mime_names.specs.declared.keys.KeyTable.{KeyTable}
 
@@ -13,9 +13,20 @@ pub record IsIndex (patterns : List ℕ) (rules : List IndexedRule) (table : Key
   pub own : All (IsIndexedRule patterns) rules
   pub keyed : IsTableOf table patterns rules
 
+-- The rules of an index.
+pub record PlainIndex : Type 0 where
+  -- Each with the type that it gives.
+  pub given : List GlobRule
+  -- Each with its own type.
+  pub own : List GlobRule
+
 -- the plain values of its rules
 abbrev pub rules_of_index : List ℕ → List IndexedRule → List GlobRule
 rules_of_index patterns rules = map (plain patterns) rules
+
+-- with the types that they give, and with their own
+abbrev pub plain_index : List ℕ → List IndexedRule → PlainIndex
+plain_index patterns rules = record { given = rules_of_index patterns rules; own = map (own_plain patterns) rules }
 
 -- the types that are lent
 abbrev pub texts_of : List (Bor (List ℕ)) → List (List ℕ)

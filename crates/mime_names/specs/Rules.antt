@@ -13,6 +13,10 @@ use Rattle.mime_names.specs.declared.named_rule.NamedRule.{NamedRule}
 abbrev pub plain_named : NamedRule → GlobRule
 plain_named rule = record { weight = rule.weight; kind = rule.kind.now; pattern = rule.pattern.now; cased = rule.cased }
 
+-- the plain value of a rule that is lent, with its own type
+abbrev pub own_named : NamedRule → GlobRule
+own_named rule = record { weight = rule.weight; kind = rule.own_kind.now; pattern = rule.pattern.now; cased = rule.cased }
+
 -- What is found of a rule that is lent, whose pattern is to begin at a place.
 pub record IsEntryOf (named : NamedRule) (start : ℕ) (rule : IndexedRule) : Type 0 where
   -- Its pattern begins there.
@@ -21,8 +25,10 @@ pub record IsEntryOf (named : NamedRule) (start : ℕ) (rule : IndexedRule) : Ty
   pub size : rule.length ≡ length named.pattern.now
   -- It has the rule's weight.
   pub weight : rule.weight ≡ named.weight
-  -- It has the rule's type.
+  -- It gives the rule's type.
   pub kind : rule.kind ≡ named.kind
+  -- It has the rule's own.
+  pub own_kind : rule.own_kind ≡ named.own_kind
   -- It is case-sensitive where the rule is.
   pub cased : rule.cased ≡ named.cased
   -- Its class is that of the rule's pattern.
@@ -37,6 +43,10 @@ pattern_of patterns rule = take rule.length (drop rule.start patterns)
 -- the plain value of a rule of an index
 abbrev pub plain : List ℕ → IndexedRule → GlobRule
 plain patterns rule = record { weight = rule.weight; kind = rule.kind.now; pattern = pattern_of patterns rule; cased = rule.cased }
+
+-- the plain value of a rule of an index, with its own type
+abbrev pub own_plain : List ℕ → IndexedRule → GlobRule
+own_plain patterns rule = record { weight = rule.weight; kind = rule.own_kind.now; pattern = pattern_of patterns rule; cased = rule.cased }
 
 -- the pattern is there, and class and rank are the rule's own, and have their room
 pub record IsIndexedRule (patterns : List ℕ) (rule : IndexedRule) : Type 0 where
@@ -66,6 +76,18 @@ others patterns rule = not (is_text_rule (plain patterns rule))
 -- each rule is one of all
 abbrev pub every : List ℕ → IndexedRule → Bool
 every patterns rule = true
+
+-- a type, a weight and whether a rule is case-sensitive
+abbrev pub Parts : Type 0
+Parts = List ℕ × (ℕ × Bool)
+
+-- those of a rule
+abbrev pub parts_of : GlobRule → Parts
+parts_of rule = (rule.kind, (rule.weight, rule.cased))
+
+-- those of a rule of an index that is lent, with its own type
+abbrev pub own_parts : Bor IndexedRule → Parts
+own_parts rule = (rule.now.own_kind.now, (rule.now.weight, rule.now.cased))
 
 -- a rule's rank and its type
 abbrev pub offer_of : List ℕ → IndexedRule → ℕ × Bor (List ℕ)

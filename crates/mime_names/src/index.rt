@@ -3,7 +3,7 @@
 ghost use Rattle.std.specs.Prelude.{◌≡◌, map, IfOk};
 ghost use Rattle.std.specs.List.{All};
 ghost use Rattle.mime_base.specs.Kept.{FitsRank};
-ghost use Rattle.mime_names.specs.Rules.{plain_named};
+ghost use Rattle.mime_names.specs.Rules.{own_named, plain_named};
 
 use crate::indexed_rule::{IndexedRule, IndexedRules, indexed_rules};
 use crate::keys::{KeyTable, key_table};
@@ -14,7 +14,7 @@ use std::marker::Model;
 
 /// An index over glob rules, whose types are lent. This project's own.
 ///
-/// For each rule it has its pattern and some 80 bytes, and for each row of its tree 256 bytes: at most a row a rule, and those of
+/// For each rule it has its pattern and some 96 bytes, and for each row of its tree 256 bytes: at most a row a rule, and those of
 /// the last byte of all patterns.
 #[derive(Drop)]
 pub struct NameIndex<'a> {
@@ -29,13 +29,11 @@ pub struct NameIndex<'a> {
 }
 
 impl<'a> Model for NameIndex<'a> {
-    ghost use Rattle.std.specs.Prelude.{List};
-    ghost use Rattle.mime_base.specs.declared.database.rule.GlobRule.{GlobRule};
-    ghost use Rattle.mime_names.specs.Index.{IsIndex, rules_of_index};
+    ghost use Rattle.mime_names.specs.Index.{IsIndex, PlainIndex, plain_index};
 
-    ghost Value = { List GlobRule };
+    ghost Value = { PlainIndex };
 
-    ghost view = { λ index. rules_of_index index.patterns.items index.rules.items };
+    ghost view = { λ index. plain_index index.patterns.items index.rules.items };
 
     ghost invariant = { λ index. IsIndex index.patterns.items index.rules.items index.table };
 }
@@ -46,7 +44,7 @@ impl<'a> NameIndex<'a> {
         // The rules keep the limits of ranks.
         requires { All FitsRank (map plain_named rules.now) }
         // It is the index over these rules.
-        ensures { IfOk result (λ index. index ≡ map plain_named rules.now) }
+        ensures { IfOk result (λ index. index ≡ record { given = map plain_named rules.now; own = map own_named rules.now }) }
     {
         let IndexedRules { rules, patterns } = indexed_rules(alloc, rules)?;
         let table = key_table(alloc, &patterns, &rules)?;

@@ -3,7 +3,7 @@
 ghost use Rattle.std.specs.Prelude.{◌≡◌, ◌<◌, ℕ, List, ◌∷◌, get_or, length, map, IfOk};
 ghost use Rattle.std.specs.List.{All};
 ghost use Rattle.mime_base.specs.Kept.{FitsRank};
-ghost use Rattle.mime_names.specs.Rules.{IsEntryOf, IsIndexedRule, is_match, pattern_of, plain, plain_named};
+ghost use Rattle.mime_names.specs.Rules.{IsEntryOf, IsIndexedRule, is_match, own_named, own_plain, pattern_of, plain, plain_named};
 
 use crate::ending::ends_so;
 use crate::named_rule::NamedRule;
@@ -15,6 +15,8 @@ use std::alloc::Global;
 pub struct IndexedRule<'a> {
     /// The type that the rule gives.
     pub kind: &'a [u8],
+    /// The type that the rule itself has, which may be an alias of that.
+    pub own_kind: &'a [u8],
     /// Where its pattern begins.
     pub start: usize,
     /// How long its pattern is.
@@ -47,8 +49,10 @@ pub fn indexed_rules<'p, 'a>(
     requires limits { All FitsRank (map plain_named named.now) }
     // Each has its own pattern, class and rank.
     ensures own { IfOk result (λ all. All (IsIndexedRule all.patterns.items) all.rules.items) }
-    // They are these rules, in their order.
+    // They are these rules, in their order, with the types that these give.
     ensures rules { IfOk result (λ all. map (plain all.patterns.items) all.rules.items ≡ map plain_named named.now) }
+    // They have the types that these have.
+    ensures own_kinds { IfOk result (λ all. map (own_plain all.patterns.items) all.rules.items ≡ map own_named named.now) }
 {
     let mut rules = Vec::with_capacity(alloc, named.len())?;
     let mut patterns = Vec::new(alloc);
@@ -80,6 +84,7 @@ fn indexed_rule<'a>(named: &NamedRule<'_, 'a>, start: usize) -> IndexedRule<'a>
     let class = class_of_bytes(pattern);
     IndexedRule {
         kind: named.kind,
+        own_kind: named.own_kind,
         start,
         length: pattern.len(),
         rank: rank_of(class, named.weight, pattern.len() as u16, named.cased),

@@ -1,17 +1,19 @@
 //! The rules that match a name, by a database that is open.
 
-ghost use Rattle.std.specs.Prelude.{◌≡◌};
+ghost use Rattle.std.specs.Prelude.{◌≡◌, ◌-◌, ◌≤◌, length};
 ghost use Rattle.mime_c.specs.Handle.{IsByHandle, StaysOpen};
-ghost use Rattle.mime_c.specs.Hits.{IsAskedHits};
+ghost use Rattle.mime_c.specs.Hits.{IsAskedHits, IsHits, hits_bytes, hits_nodes};
+ghost use Rattle.mime_view.specs.Spending.{Looks};
 
 use crate::database::handle::Handle;
 use crate::database::kept::HandleReport;
 use crate::database::open_database::OpenDatabase;
-use crate::hits::{Hit, hits_of, tell};
+use crate::hits::{Hit, tell};
 use crate::report::{Report, status_report};
 use crate::status::NAME_TOO_LONG;
 use mime_base::Meter;
-use mime_lookup::LONGEST_NAME;
+use mime_lookup::{LONGEST_NAME, hits_again};
+use mime_view::{CacheFault, RuleHits};
 use std::alloc::Global;
 
 /// What `mimelook_hits` gives, over what is open.
@@ -41,18 +43,49 @@ pub extern "C" fn mimelook_database_hits(
 // The same of what is open.
 fn ask(
     alloc: Global,
-    opened: &OpenDatabase,
+    opened: &mut OpenDatabase,
     name: &[u8],
     hits: &mut [Hit<'static>],
     count: &mut usize,
 ) -> Report
-    ensures { IsAskedHits opened.now name.now (record { hits = hits.old; count = count.old })
+    ensures same { opened.new ≡ opened.old }
+    ensures promises { IsAskedHits opened.old name.now (record { hits = hits.old; count = count.old })
         (record { hits = hits.new; count = count.new }) result }
 {
     if name.len() > LONGEST_NAME {
         return status_report(NAME_TOO_LONG, 0, Meter::new());
     }
     let mut meter = Meter::new();
-    let found = hits_of(alloc, opened.cache(), name, &mut meter);
+    let found = search(alloc, opened, name, &mut meter);
     tell(found, meter, hits, count)
+}
+
+// The rules of a name that is not too long.
+fn search(
+    alloc: Global,
+    opened: &mut OpenDatabase,
+    name: &[u8],
+    meter: &mut Meter,
+) -> Result<RuleHits<'static>, CacheFault>
+    requires short { length name.now ≤ 4096 }
+    ensures same { opened.new ≡ opened.old }
+    ensures promises { IsHits opened.old name.now result }
+    ensures cost { Looks (hits_nodes (length name.now) (length opened.old) - 1) (hits_bytes (length name.now) (length opened.old))
+        meter.old meter.new }
+{
+    opened.read_paid(alloc);
+    let indexed = opened.indexed();
+    let mut budget = indexed.budget();
+    let found = hits_again(alloc, indexed, name, meter, &mut budget);
+    pay(opened, &found, *meter);
+    found
+}
+
+// Counts what an answer visited.
+fn pay(opened: &mut OpenDatabase, found: &Result<RuleHits<'static>, CacheFault>, meter: Meter)
+    ensures same { opened.new ≡ opened.old }
+{
+    if found.is_ok() {
+        opened.pay(meter.nodes, false);
+    }
 }

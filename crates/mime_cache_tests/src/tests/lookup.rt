@@ -6,6 +6,7 @@ mod by_name;
 mod cached;
 mod globs;
 mod health;
+mod hits;
 mod indexed;
 mod limits;
 mod magic;

@@ -1,5 +1,5 @@
 -- The nodes of an index that a name costs: its rules' types went one alias step, which changes none; and those of each order.
-use Rattle.std.proofs.Common.{◌≡◌, ℕ, ◌+◌, ◌<◌, ◌≤◌, Bool, true, false, if◌then◌else◌, ◌&&◌, List, length, map, refl, sym, ap, subst}
+use Rattle.std.proofs.Common.{◌≡◌, ℕ, ◌+◌, ◌<◌, ◌≤◌, Bool, true, false, if◌then◌else◌, ◌&&◌, List, length, map, refl, ap}
 use Rattle.std.proofs.Common.{◌∙◌, arith}
 use Rattle.std.specs.List.{filter}
 use Rattle.std.proofs.lemmas.Bool.{ltb-true}
@@ -8,7 +8,7 @@ use Rattle.mime_base.specs.Kept.{hits}
 use Rattle.mime_base.specs.Matching.Matches.{rule_matches}
 use Rattle.mime_base.specs.declared.database.rule.GlobRule.{GlobRule}
 use Rattle.mime_lookup.specs.Indexed.{unaliased_rule}
-use Rattle.mime_lookup.specs.IndexNodes.{all_nodes, has_text, kept_nodes, nodes_before, order_nodes}
+use Rattle.mime_lookup.specs.IndexNodes.{all_nodes, has_text, kept_nodes, nodes_after, nodes_before, order_nodes}
 use Rattle.mime_lookup.specs.declared.order.Order.{Order}
 use Rattle.mime_lookup.specs.declared.order.Order.TheVariants.{AllGlobs, ContentOnly, GlobsFirst, MagicFirst}
 use Rattle.mime_lookup.proofs.IndexLemmas.LentRules.{filter-map}
@@ -56,12 +56,10 @@ module _ (aliases : List (List ℕ × List ℕ)) (names rules : List GlobRule) (
   pub all-nodes : new ≤ old + near_nodes (length name) (near_rules name names) → new ≤ old + all_nodes rules name
   all-nodes near = omega (arith, near, near-same)
 
--- what an order costs in all, where the globs don't suffice and the content isn't asked alone
-pub order-nodes : (order : Order) (suffice : Bool) (kept all old named asked : ℕ) → suffice ≡ false → (order ≡ ContentOnly → ⊥) →
-    named ≤ old + nodes_before order kept all → asked ≤ named + kept → (order ≡ GlobsFirst → asked ≡ named) →
-    asked ≤ old + order_nodes order suffice kept all
-order-nodes GlobsFirst suffice kept all old named asked none some before after once = omega (arith, before, once refl)
-order-nodes MagicFirst suffice kept all old named asked none some before after once = omega (arith, before, after)
-order-nodes AllGlobs suffice kept all old named asked none some before after once =
-    subst (λ s. asked ≤ old + (if s then all else all + kept)) (sym none) (omega (arith, before, after))
-order-nodes ContentOnly suffice kept all old named asked none some before after once = absurd (some refl)
+-- what an order costs in all, where the content isn't asked alone
+pub order-nodes : (order : Order) (kept all old named asked : ℕ) → (order ≡ ContentOnly → ⊥) → named ≤ old + nodes_before order kept all →
+    asked ≤ named + nodes_after order kept → asked ≤ old + order_nodes order kept all
+order-nodes GlobsFirst kept all old named asked some before after = omega (arith, before, after)
+order-nodes MagicFirst kept all old named asked some before after = omega (arith, before, after)
+order-nodes AllGlobs kept all old named asked some before after = omega (arith, before, after)
+order-nodes ContentOnly kept all old named asked some before after = absurd (some refl)

@@ -1,6 +1,7 @@
 -- Rules whose types went one alias step before they are asked: they are kept and ranked as the rules themselves.
-use Rattle.std.proofs.Common.{◌≡◌, ℕ, Bool, true, false, cond, List, [], ◌∷◌, map, refl, sym, ap, ◌∙◌}
+use Rattle.std.proofs.Common.{◌≡◌, ℕ, Bool, true, false, cond, List, [], ◌∷◌, length, map, refl, sym, ap, ◌∙◌}
 use Rattle.std.specs.List.{All, filter}
+use Rattle.std.proofs.lemmas.List.{length-map}
 use Rattle.std.proofs.lemmas.List.Elements.{All-filter, All-map}
 use Rattle.std.proofs.lemmas.Simd.{map-map}
 use Rattle.mime_base.specs.Database.Subclass.{Pairs, resolved}
@@ -50,6 +51,10 @@ module _ (pairs : Pairs) (rules : List GlobRule) (name : List ℕ) where
       ∙ of_greatest-map rank_of_rule step found)
       ∙ map-map kind_of step (of_greatest rank_of_rule found)
       ∙ ap (map (λ (rule : GlobRule). resolved pairs.aliases rule.kind)) (of_greatest-rank_of_rule found (All-filter matches FitsRank rules limits))
+
+  -- as many are kept
+  pub kept-count : All FitsRank rules → length (kept_rules (map step rules) name) ≡ length (kept pairs rules name)
+  kept-count limits = sym (length-map (kept_rules (map step rules) name) kind_of) ∙ ap length (kept-step limits)
 
   -- and all by falling rank
   pub candidates-step : map kind_of (candidate_rules (map step rules) name) ≡ candidates pairs rules name

@@ -5,6 +5,7 @@ use Rattle.std.specs.List.{All, list_all}
 use Rattle.std.proofs.lemmas.Bool.{and_from, and_parts}
 use Rattle.std.proofs.lemmas.List.{length-map, take-map, take_all}
 use Rattle.std.proofs.lemmas.List.Elements.{All-filter}
+use denote.Bor.{Bor}
 use Rattle.mime_base.specs.Database.{PlainDatabase, pairs_of}
 use Rattle.mime_base.specs.Database.Subclass.{Pairs, resolved}
 use Rattle.mime_base.specs.Kept.{FitsRank, candidate_rules, hits, kept_rules, rank_of_rule}
@@ -13,6 +14,7 @@ use Rattle.mime_base.specs.declared.database.rule.GlobRule.{GlobRule}
 use Rattle.mime_base.proofs.KeptLemmas.{of_greatest-rank_of_rule}
 use Rattle.mime_base.proofs.KeptLemmas.Candidates.{take-candidate_rules}
 use Rattle.mime_base.proofs.KeptLemmas.Greatest.{of_greatest-none}
+use Rattle.mime_lookup.specs.Ancestry.{kinds_of}
 use Rattle.mime_lookup.specs.Cached.{asked_count}
 use Rattle.mime_lookup.specs.CheckingOrder.{are_one_type}
 use Rattle.mime_lookup.specs.Choice.{ChoosesAmong, candidates, kept}
@@ -105,3 +107,10 @@ module _ (b : PlainDatabase) (name : List ℕ) (ranked : All FitsRank b.rules) w
   pub take-types : (which : Which) → take (length (kept (pairs_of b) b.rules name)) (types_for which b name) ≡ kept (pairs_of b) b.rules name
   take-types Kept = take_all (length (kept (pairs_of b) b.rules name)) (kept (pairs_of b) b.rules name) (omega arith)
   take-types Candidates = kept_front.first
+
+  -- of the types of all that match the first are those that are kept
+  pub front_kinds : (texts : List (Bor (List ℕ))) (count : ℕ) → kinds_of texts ≡ candidates (pairs_of b) b.rules name
+      → count ≡ length (kept (pairs_of b) b.rules name) → kinds_of (take count texts) ≡ kept (pairs_of b) b.rules name
+  front_kinds texts count are is =
+      sym (take-map (λ (text : Bor (List ℕ)). text.now) count texts) ∙ ap (take count) are
+      ∙ ap (λ (n : ℕ). take n (candidates (pairs_of b) b.rules name)) is ∙ kept_front.first

@@ -19,6 +19,7 @@ use Rattle.mime_lookup.proofs.IndexLemmas.LentRules.{candidates-step, kept-step}
 use Rattle.mime_lookup.proofs.OrderLemmas.Candidates.{kept_front}
 use Rattle.mime_lookup.proofs.SpellingLemmas.RuleKinds.{HasText, rules_texts, targets_texts}
 use Rattle.mime_lookup.proofs.SpellingLemmas.Types.{candidates_once, kept_once}
+use Rattle.mime_names.specs.Index.{PlainIndex}
 use Rattle.mime_view.proofs.HitsLemmas.GivenRules.{all-falling}
 use Rattle.mime_view.proofs.HitsLemmas.WalkOrder.{hits-fit}
 use Rattle.mime_view.specs.declared.name_hits.Which.{Which}
@@ -62,7 +63,7 @@ module _ (c name : List ℕ) (d : PlainDatabase) (spelled : SpellsGlobs c d) whe
       (All-filter (λ rule. rank_of_rule rule == greatest rank_of_rule (hits d.rules name)) (HasText c) (hits d.rules name) hits_texts)
 
   -- those of all rules that match, by falling rank
-  candidates_texts : All (HasText c) (candidate_rules d.rules name)
+  pub candidates_texts : All (HasText c) (candidate_rules d.rules name)
   unfolding candidate_rules
   candidates_texts =
       All-from_recursion (HasText c) (falling rank_of_rule (hits d.rules name))
@@ -74,8 +75,8 @@ module _ (c name : List ℕ) (d : PlainDatabase) (spelled : SpellsGlobs c d) whe
   types_texts Kept = steps_texts (kept_rules d.rules name) kept_texts
   types_texts Candidates = steps_texts (candidate_rules d.rules name) candidates_texts
 
--- rules of an index over a cache, and what the index gives for a name
-module _ (c name : List ℕ) (rules : List GlobRule) (of_cache : AreRulesReadBack c rules) where
+-- the rules of an index over a cache, and what the index gives for a name
+module _ (c name : List ℕ) (index : PlainIndex) (of_cache : AreRulesReadBack c index) where
   -- the database whose rules they are
   abbrev d : PlainDatabase
   d = of_cache.database
@@ -85,13 +86,13 @@ module _ (c name : List ℕ) (rules : List GlobRule) (of_cache : AreRulesReadBac
   kind_of rule = rule.kind
 
   -- the types of the kept rules
-  pub index-kept : map kind_of (kept_rules rules name) ≡ types_for Kept d name
+  pub index-kept : map kind_of (kept_rules index.given name) ≡ types_for Kept d name
   index-kept =
       ap (λ (these : List GlobRule). map kind_of (kept_rules these name)) of_cache.are
       ∙ kept-step (pairs_of d) d.rules name of_cache.spelled.ranks
 
   -- the types of all rules that match
-  pub index-candidates : map kind_of (candidate_rules rules name) ≡ types_for Candidates d name
+  pub index-candidates : map kind_of (candidate_rules index.given name) ≡ types_for Candidates d name
   index-candidates =
       ap (λ (these : List GlobRule). map kind_of (candidate_rules these name)) of_cache.are ∙ candidates-step (pairs_of d) d.rules name
 
@@ -111,7 +112,7 @@ module _ (c name : List ℕ) (rules : List GlobRule) (of_cache : AreRulesReadBac
 
   -- the types that are asked for, and how many of these are kept
   pub types_given : (which : Which) (given kept_ones : List (List ℕ)) (count : ℕ) → given ≡ types_for which d name
-      → kept_ones ≡ map kind_of (kept_rules rules name) → count ≡ length kept_ones → (b : PlainDatabase) → SpellsGlobs c b
+      → kept_ones ≡ map kind_of (kept_rules index.given name) → count ≡ length kept_ones → (b : PlainDatabase) → SpellsGlobs c b
       → AreTypesOf which b name (record { kinds = given; kept = count })
   types_given which given kept_ones count are kept_are counted b spelled = record {
     types = are ∙ types_once which b spelled;

@@ -6,7 +6,6 @@ use denote.Bor.{Bor}
 use Rattle.mime_base.specs.Database.{PlainDatabase}
 use Rattle.mime_base.specs.Database.Limits.{KeepsLimits}
 use Rattle.mime_base.specs.Kept.{FitsRank}
-use Rattle.mime_base.specs.declared.database.rule.GlobRule.{GlobRule}
 use Rattle.mime_load.specs.Lent.{plain_pairs}
 use Rattle.mime_load.specs.NameLists.{AreNameLists, listed_rules}
 use Rattle.mime_load.specs.declared.name_lists.NameLists.{NameLists}
@@ -15,6 +14,7 @@ use Rattle.mime_lookup.specs.ReadBack.{AreRulesReadBack, AreTargets, AreTargetsO
 use Rattle.mime_lookup.specs.NameMap.{IsNameMap}
 use Rattle.mime_lookup.specs.declared.name_map.NameMap.{NameMap}
 use Rattle.mime_lookup.specs.Spelling.{SpellsGlobs}
+use Rattle.mime_names.specs.Index.{PlainIndex}
 
 -- their rules and aliases
 abbrev pub listed : NameLists → PlainDatabase
@@ -49,9 +49,9 @@ module _ (c : List ℕ) (lists : NameLists) (stand : AreNameLists c lists) where
   steps_fit = All-map FitsRank (unaliased_rule (plain_pairs lists.aliases.items)) (listed_rules lists) ranks
 
   -- these are the rules of the cache
-  pub rules_of_lists : (rules : List GlobRule) → rules ≡ map (unaliased_rule (plain_pairs lists.aliases.items)) (listed_rules lists)
-      → AreRulesReadBack c rules
-  rules_of_lists rules are = record { database = listed lists; spelled = spelled; are = are }
+  pub rules_of_lists : (index : PlainIndex) → index.given ≡ map (unaliased_rule (plain_pairs lists.aliases.items)) (listed_rules lists)
+      → index.own ≡ listed_rules lists → AreRulesReadBack c index
+  rules_of_lists index are own = record { database = listed lists; spelled = spelled; are = are; own = own }
 
   -- these are the targets of its aliases
   pub targets_of_lists : (targets : NameMap (Bor (List ℕ))) → IsNameMap targets

@@ -59,6 +59,27 @@ module _ (rules : List GlobRule) (name : List ℕ) (fits : All FitsRank rules) w
       filter_falling rank_of_rule (rank_of_rule rule) (hits rules name) ∙ sym (walk_twice rules name fits (rank_of_rule rule))
       ∙ sym (filter_falling rank_of_rule (rank_of_rule rule) (offered_twice name rules)))
 
+-- rules that a cache spells twice
+module _ (c name : List ℕ) (o : Offsets) (some others : List GlobRule) (first : GlobRulesAt c o.literals o.tree o.globs some)
+    (second : GlobRulesAt c o.literals o.tree o.globs others) where
+  -- what both offer is stored as one
+  offered : map as_stored (offered_twice name some) ≡ map as_stored (offered_twice name others)
+  offered = offered_twice-once c o.literals o.tree o.globs some others first second name
+
+  -- so are those that are kept
+  pub kept_stored : map as_stored (kept_rules some name) ≡ map as_stored (kept_rules others name)
+  kept_stored =
+      ap (map as_stored) (kept-offered some name first.fit) ∙ greatest_stored (offered_twice name some)
+      ∙ ap (of_greatest rank_of_rule) offered ∙ sym (greatest_stored (offered_twice name others))
+      ∙ sym (ap (map as_stored) (kept-offered others name second.fit))
+
+  -- and all that match
+  pub candidates_stored : map as_stored (candidate_rules some name) ≡ map as_stored (candidate_rules others name)
+  candidates_stored =
+      ap (map as_stored) (candidates-offered some name first.fit) ∙ falling_stored (offered_twice name some)
+      ∙ ap (falling rank_of_rule) offered ∙ sym (falling_stored (offered_twice name others))
+      ∙ sym (ap (map as_stored) (candidates-offered others name second.fit))
+
 -- rules that are stored as one have the same types after one alias step
 types_alike : (some others : List (List ℕ × List ℕ)) → ((kind : List ℕ) → resolved some kind ≡ resolved others kind)
     → (rules more : List GlobRule)
@@ -87,11 +108,9 @@ module _ (c name : List ℕ) (b d : PlainDatabase) (one : SpellsGlobs c b) (othe
   second_rules : RulesAt other.offsets d.rules
   second_rules = record { fit = other.ranks; literals_stand = other.literals; tree_stands = other.tree; globs_stand = other.globs }
 
-  -- what both offer is stored as one
-  offered : map as_stored (offered_twice name b.rules) ≡ map as_stored (offered_twice name d.rules)
-  offered =
-      offered_twice-once c one.offsets.literals one.offsets.tree one.offsets.globs b.rules d.rules first_rules
-      (subst (λ (o : Offsets). RulesAt o d.rules) (sym places) second_rules) name
+  -- and at those of the first
+  second_there : RulesAt one.offsets d.rules
+  second_there = subst (λ (o : Offsets). RulesAt o d.rules) (sym places) second_rules
 
   -- both resolve a type alike
   resolves : (kind : List ℕ) → resolved b.aliases kind ≡ resolved d.aliases kind
@@ -104,18 +123,14 @@ module _ (c name : List ℕ) (b d : PlainDatabase) (one : SpellsGlobs c b) (othe
   unfolding kept
   kept_alike =
       types_alike b.aliases d.aliases resolves (kept_rules b.rules name) (kept_rules d.rules name)
-      (ap (map as_stored) (kept-offered b.rules name one.ranks) ∙ greatest_stored (offered_twice name b.rules)
-      ∙ ap (of_greatest rank_of_rule) offered ∙ sym (greatest_stored (offered_twice name d.rules))
-      ∙ sym (ap (map as_stored) (kept-offered d.rules name other.ranks)))
+      (kept_stored c name one.offsets b.rules d.rules first_rules second_there)
 
   -- the types of all rules that match
   candidates_alike : candidates (pairs_of b) b.rules name ≡ candidates (pairs_of d) d.rules name
   unfolding candidates
   candidates_alike =
       types_alike b.aliases d.aliases resolves (candidate_rules b.rules name) (candidate_rules d.rules name)
-      (ap (map as_stored) (candidates-offered b.rules name one.ranks) ∙ falling_stored (offered_twice name b.rules)
-      ∙ ap (falling rank_of_rule) offered ∙ sym (falling_stored (offered_twice name d.rules))
-      ∙ sym (ap (map as_stored) (candidates-offered d.rules name other.ranks)))
+      (candidates_stored c name one.offsets b.rules d.rules first_rules second_there)
 
 -- the types that are kept of a name
 pub kept_once : KeptOnce

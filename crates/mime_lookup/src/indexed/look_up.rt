@@ -21,6 +21,7 @@ use crate::order::Order;
 use crate::places::unalias_at;
 use crate::stopped::Stopped;
 use mime_base::{Host, Meter, OutOfMemory, database_keeps_limits};
+use mime_names::RankedKinds;
 use std::alloc::Global;
 
 /// The type that the checking order gives to a name and a content, over an index: as [`crate::look_up_plain`]
@@ -34,7 +35,7 @@ use std::alloc::Global;
 /// A name of more than 4,096 bytes is [`Cause::NameTooLong`], before anything else. [`Cause::Read`]
 /// comes with a failed read and with the 1,001st interruption. The meter counts each step in the index of
 /// names as a node, and no record of a cache: at most three for each byte of the name, six, and one for each
-/// rule near it, however many rules there are; under [`Order::AllGlobs`] twice as many. Where most rules are
+/// rule near it, however many rules there are. Where most rules are
 /// general patterns each is tried in place of that, and no node is counted. As bytes the meter counts what
 /// matching compares, and each part of the index of magic, with no promised bound.
 pub fn look_up_indexed<'a, R: Content>(
@@ -62,7 +63,7 @@ pub fn look_up_indexed<'a, R: Content>(
     ensures asks { AsksUnless R.health (globs_suffice (plain_database index.now) name.now order)
         content.old content.new (cause_in result) }
     // Of the index no more nodes are counted than a name's length and the rules near it allow, and no record of a cache is visited.
-    ensures nodes { (meter_in result).nodes ≤ order_nodes order (globs_suffice (plain_database index.now) name.now order)
+    ensures nodes { (meter_in result).nodes ≤ order_nodes order
         (kept_nodes index.now.rules.items name.now) (all_nodes index.now.rules.items name.now) }
 {
     look_up_over(alloc, index, name, content, host, order)
@@ -93,7 +94,7 @@ impl<'a> Asked<'a> for IndexedDatabase<'a> {
         alloc: Global,
         name: &[u8],
         meter: &mut Meter,
-    ) -> Result<Vec<&'a [u8]>, OutOfMemory> {
+    ) -> Result<RankedKinds<'a>, OutOfMemory> {
         candidate_kinds(alloc, self, name, meter)
     }
 

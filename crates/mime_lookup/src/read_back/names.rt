@@ -6,20 +6,26 @@ ghost use Rattle.mime_base.specs.Database.{PlainDatabase};
 ghost use Rattle.mime_base.specs.Database.Subclass.{resolved};
 ghost use Rattle.mime_base.specs.Format.Header.{HeaderAt, Offsets};
 ghost use Rattle.mime_base.specs.Format.Pairs.{PairsAt};
+ghost use Rattle.mime_base.specs.Kept.{FitsRank};
+ghost use Rattle.mime_base.specs.declared.database.rule.GlobRule.{GlobRule};
 ghost use Rattle.mime_load.specs.NameLists.{AreNameLists};
 ghost use Rattle.mime_lookup.specs.Cached.{IsCacheText};
 ghost use Rattle.mime_lookup.specs.ReadBack.{AreTypesOf};
 ghost use Rattle.mime_lookup.specs.Spelling.{SpellsGlobs};
+ghost use Rattle.mime_names.specs.Index.{held_types};
+ghost use Rattle.mime_view.specs.NameHits.{SpellsRules};
 ghost use Rattle.mime_view.specs.Pairs.{IsUnaliased};
+ghost use Rattle.mime_view.specs.RuleHits.{AreRuleHits, types_alone};
 
+use crate::hits::hits_of;
 use crate::name_map::NameMap;
 use crate::read_back::rules::unaliased_rules;
 use crate::read_back::spelled_once::spelled_once;
 use crate::read_back::targets::{target_of, targets_of};
 use mime_base::{Counted, Meter, OutOfMemory};
 use mime_load::NameLists;
-use mime_names::{NameIndex, candidate_kinds, kept_kinds};
-use mime_view::{NameHits, Texts, Which};
+use mime_names::{KeptTypes, NameIndex, candidate_kinds, kept_types};
+use mime_view::{NameHits, RuleHits, Texts, Which};
 use std::alloc::Global;
 use std::marker::Model;
 
@@ -33,7 +39,7 @@ use std::marker::Model;
 pub struct IndexedNames<'a> {
     /// The bytes of the cache.
     counted: Counted<'a>,
-    /// The index of its rules, each with its type after one alias step.
+    /// The index of its rules, which give their types after one alias step.
     index: NameIndex<'a>,
     /// The target of each of its aliases.
     targets: NameMap<'a, &'a [u8]>,
@@ -104,20 +110,52 @@ impl<'a> IndexedNames<'a> {
         // No more of them are kept than there are.
         ensures front { IfOk result (λ hits. hits.kept ≤ length hits.kinds) }
     {
-        let kept = kept_kinds(alloc, &self.index, name, &mut Meter::new())?;
-        let count = kept.len();
         spelled_once();
         match which {
-            Which::Kept => Ok(NameHits {
-                kinds: Texts::of(kept),
-                kept: count,
-            }),
+            Which::Kept => {
+                let types = kept_types(alloc, &self.index, name, &mut Meter::new())?;
+                Ok(kept_hits(types))
+            }
             Which::Candidates => {
                 let all = candidate_kinds(alloc, &self.index, name, &mut Meter::new())?;
                 Ok(NameHits {
-                    kinds: Texts::of(all),
-                    kept: count,
+                    kinds: Texts::of(all.kinds),
+                    kept: all.kept,
                 })
+            }
+        }
+    }
+
+    /// All rules that match a name, by falling rank, each with its type as the cache has it, and how many of these are kept.
+    pub fn rule_hits(&self, alloc: Global, name: &[u8]) -> Result<RuleHits<'a>, OutOfMemory>
+        // Where these rules stand, they are those that match.
+        ensures gives { (rules : List GlobRule) → SpellsRules self.now rules → All FitsRank rules →
+            IfOk result (AreRuleHits name.now rules) }
+        // Their types are texts of the cache.
+        ensures text { IfOk result (λ hits. All (IsCacheText self.now) (types_alone hits).kinds) }
+        // No more of them are kept than there are.
+        ensures front { IfOk result (λ hits. hits.kept ≤ length hits.rules.items) }
+    {
+        hits_of(alloc, &self.index, name, &mut Meter::new())
+    }
+}
+
+/// The types that are kept, all of which are.
+#[inline(always)]
+fn kept_hits<'a>(types: KeptTypes<'a>) -> NameHits<'a>
+    ensures kinds { result.kinds ≡ held_types types.entry }
+    ensures kept { result.kept ≡ length result.kinds }
+{
+    match types {
+        KeptTypes::One(kind) => NameHits {
+            kinds: Texts::one(kind),
+            kept: 1,
+        },
+        KeptTypes::Others(kinds) => {
+            let kept = kinds.len();
+            NameHits {
+                kinds: Texts::of(kinds),
+                kept,
             }
         }
     }

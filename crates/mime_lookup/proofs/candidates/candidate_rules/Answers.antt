@@ -1,12 +1,14 @@
-use Rattle.std.proofs.Common.{◌≡◌, [], ◌∷◌, ◌++◌, map, take_all, true, false, ap, sym, ◌∙◌}
-use Rattle.std.proofs.lemmas.List.{map-append}
-use Rattle.std.proofs.lemmas.Result.{IfOk-weaker}
+use Rattle.std.proofs.Common.{◌≡◌, [], ◌∷◌, ◌++◌, length, map, take_all, true, false, ap, sym, ◌∙◌}
+use Rattle.std.proofs.lemmas.List.{length-map, map-append}
 use denote.Bor.{Bor}
 use Rattle.mime_base.specs.Falling.{falling}
-use Rattle.mime_base.specs.Kept.{candidate_rules, hits, rank_of_rule}
+use Rattle.mime_base.specs.Kept.{candidate_rules, hits, kept_rules, of_greatest, rank_of_rule}
 use Rattle.mime_base.specs.Matching.Matches.{rule_matches}
 use Rattle.mime_base.specs.declared.database.rule.GlobRule.{GlobRule}
 use Rattle.mime_base.proofs.FallingLemmas.Order.{falling-map}
+use Rattle.mime_base.proofs.KeptLemmas.{of_greatest-rank_of_rule}
+use Rattle.mime_base.proofs.KeptLemmas.Greatest.{of_greatest-map}
+use Rattle.mime_view.proofs.HitsLemmas.WalkOrder.{hits-fit}
 use Rattle.mime_lookup.proofs.OrderLemmas.Hits.{hit_more, miss_more}
 use Rattle.mime_lookup.proofs.candidates.candidate_rules.Goals as goal
 use Rattle.mime_lookup.proofs.candidates.candidate_rules.Goals.{then-glob_matches+in_ok-push, else-glob_matches}
@@ -36,8 +38,18 @@ pub returns-clause-candidates : goal.returns-clause-candidates
 unfolding candidate_rules
 returns-clause-candidates c =
     let all = take_all c.loop-rule.rule-index c.args.rules.now c.loop-rule-test.false in
-    IfOk-weaker c.by_rank.result (λ sorted. sorted.items ≡ falling (λ rule. rank_of_rule rule.now) c.loop-rule.found.items)
-    (λ found. map (λ rule. rule.now) found.items ≡ falling rank_of_rule (hits c.args.rules.now c.args.name.now))
-    (λ sorted is. ap (map (λ (rule : Bor GlobRule). rule.now)) is
+    ap (map (λ (rule : Bor GlobRule). rule.now)) c.in_ok-sorted.ensures
     ∙ falling-map (λ (rule : Bor GlobRule). rule.now) rank_of_rule c.loop-rule.found.items
-    ∙ ap (falling rank_of_rule) (rw all at c.loop-rule.invariant.found)) c.by_rank.ensures
+    ∙ ap (falling rank_of_rule) (rw all at c.loop-rule.invariant.found)
+
+pub returns-clause-kept : goal.returns-clause-kept
+unfolding kept_rules
+returns-clause-kept c = λ fits.
+    let all = take_all c.loop-rule.rule-index c.args.rules.now c.loop-rule-test.false in
+    let value = λ (rule : Bor GlobRule). rule.now in
+    let found = c.loop-rule.found.items in
+    let are : map value found ≡ hits c.args.rules.now c.args.name.now = rw all at c.loop-rule.invariant.found in
+    c.count_best-kept.ensures found (c.deref.ensures.value ∙ c.in_ok-sorted.ensures)
+    ∙ sym (length-map (of_greatest (λ (rule : Bor GlobRule). rank_of_rule rule.now) found) value)
+    ∙ ap length (sym (of_greatest-map rank_of_rule value found) ∙ ap (of_greatest rank_of_rule) are
+    ∙ of_greatest-rank_of_rule (hits c.args.rules.now c.args.name.now) (hits-fit c.args.rules.now c.args.name.now fits))

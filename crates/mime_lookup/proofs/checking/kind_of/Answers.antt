@@ -2,7 +2,7 @@ use Rattle.std.proofs.Common.{◌≡◌, ◌∙◌, ℕ, Option, true, false, Li
 use Rattle.std.proofs.lemmas.Option.{IfSome_then}
 use denote.Bor.{Bor}
 use Rattle.mime_lookup.specs.Ancestry.{kinds_of}
-use Rattle.mime_lookup.specs.CheckingOrder.{IsSniffed, are_one_type, globs_suffice}
+use Rattle.mime_lookup.specs.CheckingOrder.{IsSniffed, are_one_type}
 use Rattle.mime_lookup.proofs.IndexLemmas.IndexNodes.{order-nodes}
 use Rattle.mime_lookup.proofs.OrderLemmas.Answering.{first_text}
 use Rattle.mime_lookup.proofs.OrderLemmas.TypesBefore.{by_asked_types, by_one_before, by_sniffed, suffice_before}
@@ -13,7 +13,7 @@ use Rattle.mime_lookup.proofs.checking.kind_of.Goals as goal
 -- the types that the name gives suffice: the order gives this type, whatever the content is
 pub returns-then-are_one_type-clause-answers : goal.returns-then-are_one_type-clause-answers
 returns-then-are_one_type-clause-answers g c =
-    let named = c.in_ok-named.named.items in
+    let named = c.in_ok-named.named.kinds.items in
     let question = c.args.question.now in
     let one : are_one_type (kinds_of named) ≡ true =
     rw c.deref.ensures.value at (sym c.are_one_type.ensures ∙ c.if-are_one_type.true) in
@@ -27,7 +27,7 @@ returns-then-are_one_type-clause-answers g c =
 -- and nothing is read
 pub returns-then-are_one_type-clause-read : goal.returns-then-are_one_type-clause-read
 returns-then-are_one_type-clause-read g c =
-    let one : are_one_type (kinds_of c.in_ok-named.named.items) ≡ true =
+    let one : are_one_type (kinds_of c.in_ok-named.named.kinds.items) ≡ true =
     rw c.deref.ensures.value at (sym c.are_one_type.ensures ∙ c.if-are_one_type.true) in
     let question = c.args.question.now in
     none_read (g.A.Asked.plain c.args.database.now) question.name.now question.order _ _ c.requires.none
@@ -35,7 +35,7 @@ returns-then-are_one_type-clause-read g c =
 
 pub returns-then-are_one_type-clause-uses : goal.returns-then-are_one_type-clause-uses
 returns-then-are_one_type-clause-uses g c =
-    let one : are_one_type (kinds_of c.in_ok-named.named.items) ≡ true =
+    let one : are_one_type (kinds_of c.in_ok-named.named.kinds.items) ≡ true =
     rw c.deref.ensures.value at (sym c.are_one_type.ensures ∙ c.if-are_one_type.true) in
     record {
       reader = reads_nothing g.R.Read.remaining g.R.Content.tally g.R.Content.health _ c.args.content.now c.args.read.now _ c.requires.none;
@@ -47,7 +47,7 @@ returns-then-are_one_type-clause-uses g c =
 -- the content can't be sniffed
 pub returns-in_err-sniffed-clause-uses : goal.returns-in_err-sniffed-clause-uses
 returns-in_err-sniffed-clause-uses g c =
-    let several : are_one_type (kinds_of c.in_ok-named.named.items) ≡ false =
+    let several : are_one_type (kinds_of c.in_ok-named.named.kinds.items) ≡ false =
     rw c.deref.ensures.value at (sym c.are_one_type.ensures ∙ c.if-are_one_type.false) in
     record {
       reader = reads_stopped g.R.Read.remaining g.R.Content.tally g.R.Content.health _ c.args.content.now c.sniff_content.new.content
@@ -77,7 +77,7 @@ returns-then-precedes_globs-clause-answers g c =
 -- and the front is read
 pub returns-then-precedes_globs-clause-read : goal.returns-then-precedes_globs-clause-read
 returns-then-precedes_globs-clause-read g c =
-    let several : are_one_type (kinds_of c.in_ok-named.named.items) ≡ false =
+    let several : are_one_type (kinds_of c.in_ok-named.named.kinds.items) ≡ false =
     rw c.deref.ensures.value at (sym c.are_one_type.ensures ∙ c.if-are_one_type.false) in
     front_read (g.A.Asked.plain c.args.database.now) c.args.question.now.name.now c.args.question.now.order _ _
     (suffice_before _ _ c.args.question.now.order _ false c.in_ok-named.ensures.named several)
@@ -103,7 +103,7 @@ returns-clause-answers g c =
 -- and the front is read
 pub returns-clause-read : goal.returns-clause-read
 returns-clause-read g c =
-    let several : are_one_type (kinds_of c.in_ok-named.named.items) ≡ false =
+    let several : are_one_type (kinds_of c.in_ok-named.named.kinds.items) ≡ false =
     rw c.deref.ensures.value at (sym c.are_one_type.ensures ∙ c.if-are_one_type.false) in
     front_read (g.A.Asked.plain c.args.database.now) c.args.question.now.name.now c.args.question.now.order _ _
     (suffice_before _ _ c.args.question.now.order _ false c.in_ok-named.ensures.named several)
@@ -113,41 +113,32 @@ returns-clause-read g c =
 pub returns-in_err-asked-clause-nodes : goal.returns-in_err-asked-clause-nodes
 returns-in_err-asked-clause-nodes g c =
     let question = c.args.question.now in
-    let several : are_one_type (kinds_of c.in_ok-named.named.items) ≡ false =
-    rw c.deref.ensures.value at (sym c.are_one_type.ensures ∙ c.if-are_one_type.false) in
-    order-nodes question.order (globs_suffice (g.A.Asked.plain c.args.database.now) question.name.now question.order)
+    order-nodes question.order
     (g.A.Asked.kept_nodes c.args.database.now question.name.now) (g.A.Asked.all_nodes c.args.database.now question.name.now)
     c.args.meter.now.nodes c.sniff_content.new.meter.nodes c.asked_kinds.new.meter.nodes
-    (suffice_before (g.A.Asked.plain c.args.database.now) question.name.now question.order _ false c.in_ok-named.ensures.named several)
     (λ alone. true≢false (sym (c.precedes_globs.ensures.alone alone) ∙ c.if-precedes_globs.false))
-    (omega (arith, c.named_kinds.ensures.nodes, c.sniff_content.ensures.nodes)) c.asked_kinds.ensures.nodes c.asked_kinds.ensures.once
+    (omega (arith, c.named_kinds.ensures.nodes, c.sniff_content.ensures.nodes)) c.asked_kinds.ensures.nodes
 
 -- and no more nodes are counted
 pub returns-in_err-kind-clause-nodes : goal.returns-in_err-kind-clause-nodes
 returns-in_err-kind-clause-nodes g c =
     let question = c.args.question.now in
-    let several : are_one_type (kinds_of c.in_ok-named.named.items) ≡ false =
-    rw c.deref.ensures.value at (sym c.are_one_type.ensures ∙ c.if-are_one_type.false) in
     let before =
-    order-nodes question.order (globs_suffice (g.A.Asked.plain c.args.database.now) question.name.now question.order)
+    order-nodes question.order
     (g.A.Asked.kept_nodes c.args.database.now question.name.now) (g.A.Asked.all_nodes c.args.database.now question.name.now)
     c.args.meter.now.nodes c.sniff_content.new.meter.nodes c.asked_kinds.new.meter.nodes
-    (suffice_before (g.A.Asked.plain c.args.database.now) question.name.now question.order _ false c.in_ok-named.ensures.named several)
     (λ alone. true≢false (sym (c.precedes_globs.ensures.alone alone) ∙ c.if-precedes_globs.false))
-    (omega (arith, c.named_kinds.ensures.nodes, c.sniff_content.ensures.nodes)) c.asked_kinds.ensures.nodes c.asked_kinds.ensures.once in
+    (omega (arith, c.named_kinds.ensures.nodes, c.sniff_content.ensures.nodes)) c.asked_kinds.ensures.nodes in
     omega (arith, before, c.choose.ensures.nodes)
 
 -- and no more nodes are counted
 pub returns-clause-nodes : goal.returns-clause-nodes
 returns-clause-nodes g c =
     let question = c.args.question.now in
-    let several : are_one_type (kinds_of c.in_ok-named.named.items) ≡ false =
-    rw c.deref.ensures.value at (sym c.are_one_type.ensures ∙ c.if-are_one_type.false) in
     let before =
-    order-nodes question.order (globs_suffice (g.A.Asked.plain c.args.database.now) question.name.now question.order)
+    order-nodes question.order
     (g.A.Asked.kept_nodes c.args.database.now question.name.now) (g.A.Asked.all_nodes c.args.database.now question.name.now)
     c.args.meter.now.nodes c.sniff_content.new.meter.nodes c.asked_kinds.new.meter.nodes
-    (suffice_before (g.A.Asked.plain c.args.database.now) question.name.now question.order _ false c.in_ok-named.ensures.named several)
     (λ alone. true≢false (sym (c.precedes_globs.ensures.alone alone) ∙ c.if-precedes_globs.false))
-    (omega (arith, c.named_kinds.ensures.nodes, c.sniff_content.ensures.nodes)) c.asked_kinds.ensures.nodes c.asked_kinds.ensures.once in
+    (omega (arith, c.named_kinds.ensures.nodes, c.sniff_content.ensures.nodes)) c.asked_kinds.ensures.nodes in
     omega (arith, before, c.choose.ensures.nodes)

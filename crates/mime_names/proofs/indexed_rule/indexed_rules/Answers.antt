@@ -3,9 +3,9 @@ use Rattle.std.specs.List.{All}
 use Rattle.std.proofs.lemmas.List.{get_or-map, length-append, length-map, map-append, take_more}
 use Rattle.mime_base.specs.Kept.{FitsRank}
 use Rattle.mime_base.specs.declared.database.rule.GlobRule.{GlobRule}
-use Rattle.mime_names.specs.Rules.{plain_named}
+use Rattle.mime_names.specs.Rules.{own_named, plain_named}
 use Rattle.mime_names.specs.declared.named_rule.NamedRule.{NamedRule}
-use Rattle.mime_names.proofs.RuleLemmas.{indexed-last, plain-last, plains-more, rules-more}
+use Rattle.mime_names.proofs.RuleLemmas.{indexed-last, own-last, owns-more, plain-last, plains-more, rules-more}
 use Rattle.mime_names.proofs.indexed_rule.indexed_rules.Goals as goal
 
 -- some rule
@@ -51,4 +51,9 @@ loop-place-preserved c =
           plains-more old more c.loop-place.rules.items rule (map plain_named (take place named)) (plain_named lent) before.own before.rules last
           ∙ sym (ap (map plain_named) (take_more named place lent c.loop-place-test.true ∙ ap (λ own. take place named ++ own ∷ []) (sym is))
           ∙ map-append plain_named (take place named) (lent ∷ []));
+      own_kinds =
+          owns-more old more c.loop-place.rules.items rule (map own_named (take place named)) (own_named lent) before.own before.own_kinds
+          (own-last old lent rule _ made start)
+          ∙ sym (ap (map own_named) (take_more named place lent c.loop-place-test.true ∙ ap (λ own. take place named ++ own ∷ []) (sym is))
+          ∙ map-append own_named (take place named) (lent ∷ []));
     }

@@ -1,7 +1,7 @@
 use Rattle.std.proofs.Common.{◌≡◌, List, map, ap, ◌∙◌, arith}
 use Rattle.mime_base.specs.Kept.{kept_rules, of_greatest, rank_of_rule}
 use Rattle.mime_base.specs.declared.database.rule.GlobRule.{GlobRule}
-use Rattle.mime_names.specs.Index.{texts_of}
+use Rattle.mime_names.specs.Index.{PlainIndex, texts_of}
 use Rattle.mime_names.specs.Rules.{hits_of, others, plain, texts}
 use Rattle.mime_names.proofs.KeptLemmas.{kept-none, kept-others, kept-some, kept-texts}
 use Rattle.mime_names.proofs.TableLemmas.{near-others, near-texts}
@@ -19,7 +19,7 @@ returns-then-len-gt0-clause-kept c =
     (rw (c.deref.ensures.value, c.deref-2.ensures.value, c.deref-3.ensures) at (c.in_ok-kept.ensures.kept (texts patterns))) near in
     ap texts_of kept
     ∙ kept-texts patterns rules name own (kept-some patterns (hits_of patterns (texts patterns) rules name) c.in_ok-kept.kept.items kept (omega (arith, c.if-len-gt0.true, c.len.ensures)))
-    ∙ ap (λ (all : List GlobRule). map (λ (rule : GlobRule). rule.kind) (kept_rules all name)) c.index.view_is
+    ∙ ap (λ (all : List GlobRule). map (λ (rule : GlobRule). rule.kind) (kept_rules all name)) (ap (λ (index : PlainIndex). index.given) c.index.view_is)
 
 pub returns-clause-kept : goal.returns-clause-kept
 returns-clause-kept c =
@@ -35,26 +35,26 @@ returns-clause-kept c =
     (rw (c.deref-4.ensures.value, c.deref-5.ensures.value, c.deref-6.ensures) at (c.in_ok-kinds.ensures.kept (others patterns))) also in
     ap texts_of kinds
     ∙ kept-others patterns rules name own (kept-none patterns (hits_of patterns (texts patterns) rules name) c.in_ok-kept.kept.items kept (omega (arith, c.if-len-gt0.false, c.len.ensures)))
-    ∙ ap (λ (all : List GlobRule). map (λ (rule : GlobRule). rule.kind) (kept_rules all name)) c.index.view_is
+    ∙ ap (λ (all : List GlobRule). map (λ (rule : GlobRule). rule.kind) (kept_rules all name)) (ap (λ (index : PlainIndex). index.given) c.index.view_is)
 
 pub returns-in_err-texts-clause-near : goal.returns-in_err-texts-clause-near
 returns-in_err-texts-clause-near c =
     texts-near c.index.inside.patterns.items c.index.inside.rules.items c.index.inside.table c.index.invariant
-    c.args.name.now c.args.index.now c.index.view_is
+    c.args.name.now c.args.index.now.given (ap (λ (index : PlainIndex). index.given) c.index.view_is)
     c.args.meter.now.nodes c.text_places.new.meter.nodes c.text_places.ensures.steps
 
 pub returns-in_err-texts-clause-texts : goal.returns-in_err-texts-clause-texts
 returns-in_err-texts-clause-texts c =
     λ some.
     let before = texts-nodes c.index.inside.patterns.items c.index.inside.rules.items c.index.inside.table c.index.invariant
-    c.args.name.now c.args.index.now c.index.view_is
+    c.args.name.now c.args.index.now.given (ap (λ (index : PlainIndex). index.given) c.index.view_is)
     c.args.meter.now.nodes c.text_places.new.meter.nodes c.text_places.ensures.steps in
     omega (arith, before)
 
 pub returns-in_err-kept-clause-near : goal.returns-in_err-kept-clause-near
 returns-in_err-kept-clause-near c =
     let before = texts-near c.index.inside.patterns.items c.index.inside.rules.items c.index.inside.table c.index.invariant
-    c.args.name.now c.args.index.now c.index.view_is
+    c.args.name.now c.args.index.now.given (ap (λ (index : PlainIndex). index.given) c.index.view_is)
     c.args.meter.now.nodes c.text_places.new.meter.nodes c.text_places.ensures.steps in
     omega (arith, before, c.best_kinds.ensures.nodes)
 
@@ -62,14 +62,14 @@ pub returns-in_err-kept-clause-texts : goal.returns-in_err-kept-clause-texts
 returns-in_err-kept-clause-texts c =
     λ some.
     let before = texts-nodes c.index.inside.patterns.items c.index.inside.rules.items c.index.inside.table c.index.invariant
-    c.args.name.now c.args.index.now c.index.view_is
+    c.args.name.now c.args.index.now.given (ap (λ (index : PlainIndex). index.given) c.index.view_is)
     c.args.meter.now.nodes c.text_places.new.meter.nodes c.text_places.ensures.steps in
     omega (arith, before, c.best_kinds.ensures.nodes)
 
 pub returns-then-len-gt0-clause-near : goal.returns-then-len-gt0-clause-near
 returns-then-len-gt0-clause-near c =
     let before = texts-near c.index.inside.patterns.items c.index.inside.rules.items c.index.inside.table c.index.invariant
-    c.args.name.now c.args.index.now c.index.view_is
+    c.args.name.now c.args.index.now.given (ap (λ (index : PlainIndex). index.given) c.index.view_is)
     c.args.meter.now.nodes c.text_places.new.meter.nodes c.text_places.ensures.steps in
     omega (arith, before, c.best_kinds.ensures.nodes)
 
@@ -77,14 +77,14 @@ pub returns-then-len-gt0-clause-texts : goal.returns-then-len-gt0-clause-texts
 returns-then-len-gt0-clause-texts c =
     λ some.
     let before = texts-nodes c.index.inside.patterns.items c.index.inside.rules.items c.index.inside.table c.index.invariant
-    c.args.name.now c.args.index.now c.index.view_is
+    c.args.name.now c.args.index.now.given (ap (λ (index : PlainIndex). index.given) c.index.view_is)
     c.args.meter.now.nodes c.text_places.new.meter.nodes c.text_places.ensures.steps in
     omega (arith, before, c.best_kinds.ensures.nodes)
 
 pub returns-in_err-others-clause-near : goal.returns-in_err-others-clause-near
 returns-in_err-others-clause-near c =
     fronts-near c.index.inside.patterns.items c.index.inside.rules.items c.index.inside.table c.index.invariant
-    c.args.name.now c.args.index.now c.index.view_is c.args.meter.now.nodes c.text_places.new.meter.nodes
+    c.args.name.now c.args.index.now.given (ap (λ (index : PlainIndex). index.given) c.index.view_is) c.args.meter.now.nodes c.text_places.new.meter.nodes
     c.best_kinds.new.meter.nodes c.front_places.new.meter.nodes c.text_places.ensures.steps c.best_kinds.ensures.nodes
     c.front_places.ensures.steps
 
@@ -92,7 +92,7 @@ pub returns-in_err-others-clause-texts : goal.returns-in_err-others-clause-texts
 returns-in_err-others-clause-texts c =
     λ some.
     absurd (texts-none c.index.inside.patterns.items c.index.inside.rules.items c.index.inside.table c.index.invariant
-    c.args.name.now c.args.index.now c.index.view_is
+    c.args.name.now c.args.index.now.given (ap (λ (index : PlainIndex). index.given) c.index.view_is)
     c.in_ok-texts.texts.items c.in_ok-texts.ensures.near c.in_ok-kept.kept.items
     (rw (c.deref.ensures.value, c.deref-2.ensures.value, c.deref-3.ensures) at
     (c.in_ok-kept.ensures.kept (texts c.index.inside.patterns.items)))
@@ -102,7 +102,7 @@ pub returns-in_err-kinds-clause-near : goal.returns-in_err-kinds-clause-near
 returns-in_err-kinds-clause-near c =
     let before =
     fronts-near c.index.inside.patterns.items c.index.inside.rules.items c.index.inside.table c.index.invariant
-    c.args.name.now c.args.index.now c.index.view_is c.args.meter.now.nodes c.text_places.new.meter.nodes
+    c.args.name.now c.args.index.now.given (ap (λ (index : PlainIndex). index.given) c.index.view_is) c.args.meter.now.nodes c.text_places.new.meter.nodes
     c.best_kinds.new.meter.nodes c.front_places.new.meter.nodes c.text_places.ensures.steps c.best_kinds.ensures.nodes
     c.front_places.ensures.steps in
     omega (arith, before, c.best_kinds-2.ensures.nodes)
@@ -111,7 +111,7 @@ pub returns-in_err-kinds-clause-texts : goal.returns-in_err-kinds-clause-texts
 returns-in_err-kinds-clause-texts c =
     λ some.
     absurd (texts-none c.index.inside.patterns.items c.index.inside.rules.items c.index.inside.table c.index.invariant
-    c.args.name.now c.args.index.now c.index.view_is
+    c.args.name.now c.args.index.now.given (ap (λ (index : PlainIndex). index.given) c.index.view_is)
     c.in_ok-texts.texts.items c.in_ok-texts.ensures.near c.in_ok-kept.kept.items
     (rw (c.deref.ensures.value, c.deref-2.ensures.value, c.deref-3.ensures) at
     (c.in_ok-kept.ensures.kept (texts c.index.inside.patterns.items)))
@@ -121,7 +121,7 @@ pub returns-clause-near : goal.returns-clause-near
 returns-clause-near c =
     let before =
     fronts-near c.index.inside.patterns.items c.index.inside.rules.items c.index.inside.table c.index.invariant
-    c.args.name.now c.args.index.now c.index.view_is c.args.meter.now.nodes c.text_places.new.meter.nodes
+    c.args.name.now c.args.index.now.given (ap (λ (index : PlainIndex). index.given) c.index.view_is) c.args.meter.now.nodes c.text_places.new.meter.nodes
     c.best_kinds.new.meter.nodes c.front_places.new.meter.nodes c.text_places.ensures.steps c.best_kinds.ensures.nodes
     c.front_places.ensures.steps in
     omega (arith, before, c.best_kinds-2.ensures.nodes)
@@ -130,7 +130,7 @@ pub returns-clause-texts : goal.returns-clause-texts
 returns-clause-texts c =
     λ some.
     absurd (texts-none c.index.inside.patterns.items c.index.inside.rules.items c.index.inside.table c.index.invariant
-    c.args.name.now c.args.index.now c.index.view_is
+    c.args.name.now c.args.index.now.given (ap (λ (index : PlainIndex). index.given) c.index.view_is)
     c.in_ok-texts.texts.items c.in_ok-texts.ensures.near c.in_ok-kept.kept.items
     (rw (c.deref.ensures.value, c.deref-2.ensures.value, c.deref-3.ensures) at
     (c.in_ok-kept.ensures.kept (texts c.index.inside.patterns.items)))

@@ -13,6 +13,6 @@ new-requires c =
     let rules = c.args.database.now.rules.items in
     let step = unaliased_rule (plain_pairs c.in_ok-aliases.aliases.pairs.now) in
     subst (All FitsRank)
-    (sym (ap (map plain_named) c.deref-4.ensures.value ∙ c.in_ok-rules.ensures ∙ ap (map step) c.deref-3.ensures.value))
+    (sym (ap (map plain_named) c.deref-4.ensures.value ∙ c.in_ok-rules.ensures.given ∙ ap (map step) c.deref-3.ensures.value))
     (All-map FitsRank step rules
     (All-weaker KeepsLimits FitsRank (λ rule is. (is.0, omega (arith, is.1))) rules c.database_keeps_limits.ensures.rules))

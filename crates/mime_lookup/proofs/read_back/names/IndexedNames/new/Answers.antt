@@ -1,6 +1,7 @@
 use Rattle.std.proofs.Common.{List, map, ap, sym, subst, ◌∙◌}
 use Rattle.std.specs.List.{All}
-use Rattle.mime_names.specs.Rules.{plain_named}
+use Rattle.mime_names.specs.Index.{PlainIndex}
+use Rattle.mime_names.specs.Rules.{own_named, plain_named}
 use Rattle.mime_base.specs.Kept.{FitsRank}
 use Rattle.mime_load.specs.Lent.{plain_pairs}
 use Rattle.mime_load.specs.NameLists.{listed_rules}
@@ -17,7 +18,7 @@ new-requires c =
     let are : AreTargets (plain_pairs lists.aliases.items) targets =
     subst (λ (pairs : List LentPair). AreTargets (plain_pairs pairs) targets) c.deref.ensures.value c.in_ok-targets.ensures.are in
     subst (All FitsRank)
-    (sym (ap (map plain_named) c.deref-2.ensures.value ∙ c.in_ok-rules.ensures
+    (sym (ap (map plain_named) c.deref-2.ensures.value ∙ c.in_ok-rules.ensures.given
     ∙ rules_by_targets (plain_pairs lists.aliases.items) targets are (listed_rules lists)))
     (steps_fit c.args.counted lists c.requires)
 
@@ -28,7 +29,9 @@ invariant_of-result c =
     let are : AreTargets (plain_pairs lists.aliases.items) targets =
     subst (λ (pairs : List LentPair). AreTargets (plain_pairs pairs) targets) c.deref.ensures.value c.in_ok-targets.ensures.are in (
       rules_of_lists c.args.counted lists c.requires c.in_ok-index.index
-          (c.in_ok-index.ensures ∙ ap (map plain_named) c.deref-2.ensures.value ∙ c.in_ok-rules.ensures
-          ∙ rules_by_targets (plain_pairs lists.aliases.items) targets are (listed_rules lists)),
+          (ap (λ (index : PlainIndex). index.given) c.in_ok-index.ensures ∙ ap (map plain_named) c.deref-2.ensures.value
+          ∙ c.in_ok-rules.ensures.given ∙ rules_by_targets (plain_pairs lists.aliases.items) targets are (listed_rules lists))
+          (ap (λ (index : PlainIndex). index.own) c.in_ok-index.ensures ∙ ap (map own_named) c.deref-2.ensures.value
+          ∙ c.in_ok-rules.ensures.own),
       targets_of_lists c.args.counted lists c.requires targets c.in_ok-targets.ensures.valid are,
     )

@@ -1,12 +1,12 @@
 use Rattle.std.proofs.Common.{◌≡◌, ℕ, ◌≤◌, ◌<◌, Bool, length, get_or, map, take}
 use Rattle.mime_names.specs.Places.{AreNear}
-use Rattle.mime_names.specs.Rules.{hits_of, offer_of}
+use Rattle.mime_names.specs.Rules.{hits_of}
 use Rattle.mime_names.specs.declared.indexed_rule.IndexedRule.{IndexedRule}
-use Rattle.mime_names.proofs.candidates.offers.Given as goal
+use Rattle.mime_names.proofs.ranked.matching_rules.Given as goal
 
 abbrev pub invariant-loop-near : goal.invariant-loop-near
 invariant-loop-near l = record {
-  found : (part : IndexedRule → Bool) → AreNear l.patterns part l.rules l.name l.places → l.found.items ≡ (map (offer_of l.patterns) (hits_of l.patterns part (take l.from l.rules) l.name));
+  found : (part : IndexedRule → Bool) → AreNear l.patterns part l.rules l.name l.places → map (λ rule. rule.now) l.found.items ≡ hits_of l.patterns part (take l.from l.rules) l.name;
   within : l.from ≤ length l.rules;
   past : (j : ℕ) → j < l.near → get_or l.places j 0 < l.from;
   nodes : l.meter.nodes ≡ l.fn.meter.nodes;

@@ -1,12 +1,13 @@
-use Rattle.std.proofs.Common.{◌≡◌, ◌<◌, ◌∷◌, ◌++◌, [], Bool, true, false, length, get_or, map, subst, take, take_all, sym, ap, ◌∙◌, arith}
+use Rattle.std.proofs.Common.{◌≡◌, ◌<◌, ◌∷◌, ◌++◌, [], Bool, true, false, length, get_or, map, take, take_all, sym, ap, ◌∙◌, arith}
+use Rattle.std.proofs.lemmas.List.{map-append}
 use Rattle.std.proofs.lemmas.List.Elements.{Contains-get_or}
+use denote.Bor.{Bor}
 use Rattle.mime_names.specs.Places.{AreNear}
-use Rattle.mime_names.specs.Rules.{IsIndexedRule, hits_of, is_match, offer_of}
+use Rattle.mime_names.specs.Rules.{hits_of, is_match}
 use Rattle.mime_names.specs.declared.indexed_rule.IndexedRule.{IndexedRule}
-use Rattle.mime_names.proofs.KeptLemmas.{offers-hit}
-use Rattle.mime_names.proofs.NearLemmas.{miss_more, passed}
-use Rattle.mime_names.proofs.candidates.offers.Goals as goal
-use Rattle.mime_names.proofs.candidates.offers.Goals.{then-from-place, then-is_match+in_ok-push, else-is_match, else-from-place}
+use Rattle.mime_names.proofs.NearLemmas.{hit_more, miss_more, passed}
+use Rattle.mime_names.proofs.ranked.matching_rules.Goals as goal
+use Rattle.mime_names.proofs.ranked.matching_rules.Goals.{then-from-place, then-is_match+in_ok-push, else-is_match, else-from-place}
 
 pub loop-near-preserved : goal.loop-near-preserved
 loop-near-preserved c =
@@ -26,18 +27,16 @@ loop-near-preserved c =
           hits_of patterns part (take place rules) name ≡ hits_of patterns part (take c.loop-near.from rules) name =
           λ part near. passed patterns part rules name places near c.loop-near.from place i before.past
           (λ j order within. near.rise i j 0 order within) w.if-from-place.true (omega (arith, low)) in
-          let indexed : IsIndexedRule patterns rule = subst (IsIndexedRule patterns) (sym w.rule_at-rule.ensures) (c.requires.own place rule low) in
-          let offered : (rule.rank, rule.kind) ≡ offer_of patterns rule = ap (λ n. (n, rule.kind)) indexed.rank in
           record {
             found = λ part near. elim w.if-is_match.branch [
               | then-is_match+in_ok-push v ↦
                   (let own = near.only place rule (Contains-get_or places i 0 inside) w.rule_at-rule.ensures in
                   let hit : is_match patterns name rule ≡ true = sym w.is_match.ensures.exact ∙ v.if-is_match.true in
                   rw (w.from-is, w.found-is, v.found-is)
-                  (v.in_ok-push.ensures.items
-                  ∙ ap (λ offer. c.loop-near.found.items ++ offer ∷ []) offered
-                  ∙ ap (λ front. front ++ offer_of patterns rule ∷ []) (before.found part near)
-                  ∙ sym (offers-hit patterns part rules name place c.loop-near.from rule low w.rule_at-rule.ensures own hit (skipped part near))))
+                  (ap (map (λ (rule : Bor IndexedRule). rule.now)) v.in_ok-push.ensures.items
+                  ∙ map-append (λ (rule : Bor IndexedRule). rule.now) c.loop-near.found.items _
+                  ∙ ap (λ front. front ++ rule ∷ []) (before.found part near ∙ sym (skipped part near))
+                  ∙ sym (hit_more patterns part rules name place rule low w.rule_at-rule.ensures own hit)))
               | else-is_match v ↦
                   (let miss : is_match patterns name rule ≡ false = sym w.is_match.ensures.exact ∙ v.if-is_match.false in
                   rw (w.from-is, w.found-is, v.found-is, miss_more patterns part rules name place rule low w.rule_at-rule.ensures miss, skipped part near)
@@ -55,8 +54,8 @@ loop-near-preserved c =
       }
     ]
 
-pub returns-clause-offers : goal.returns-clause-offers
-returns-clause-offers c = λ part near.
+pub returns-clause-found : goal.returns-clause-found
+returns-clause-found c = λ part near.
     let patterns = c.args.patterns.now in
     let rules = c.args.rules.now in
     let name = c.args.name.now in
@@ -66,4 +65,4 @@ returns-clause-offers c = λ part near.
     sym (passed patterns part rules name places near c.loop-near.from (length rules) c.loop-near.near before.past
     (λ j order within. absurd (omega (arith, order, within, c.loop-near-test.false))) before.within (omega arith))
     ∙ ap (λ rs. hits_of patterns part rs name) (take_all (length rules) rules (omega arith)) in
-    before.found part near ∙ ap (map (offer_of patterns)) all
+    before.found part near ∙ all
