@@ -3,6 +3,7 @@
 ghost use Rattle.std.specs.Prelude.{◌≡◌, ◌-◌, ◌≤◌, length};
 ghost use Rattle.mime_c.specs.Handle.{IsByHandle, StaysOpen};
 ghost use Rattle.mime_c.specs.Hits.{IsAskedHits, IsHits, hits_bytes, hits_nodes};
+ghost use Rattle.mime_c.specs.Reader.{IsOfCache};
 ghost use Rattle.mime_view.specs.Spending.{Looks};
 
 use crate::database::handle::Handle;
@@ -69,7 +70,7 @@ fn search(
 ) -> Result<RuleHits<'static>, CacheFault>
     requires short { length name.now ≤ 4096 }
     ensures same { opened.new ≡ opened.old }
-    ensures promises { IsHits opened.old name.now result }
+    ensures promises { IsOfCache opened.old (IsHits opened.old name.now) result }
     ensures cost { Looks (hits_nodes (length name.now) (length opened.old) - 1) (hits_bytes (length name.now) (length opened.old))
         meter.old meter.new }
 {
