@@ -1,5 +1,5 @@
 -- An index over rules.
-use Rattle.std.specs.Prelude.{ℕ, List, map}
+use Rattle.std.specs.Prelude.{ℕ, List, [], ◌∷◌, map}
 use Rattle.std.specs.Borrow.{Bor}
 use Rattle.std.specs.List.{All}
 use Rattle.mime_base.specs.declared.database.rule.GlobRule.{GlobRule}
@@ -7,6 +7,8 @@ use Rattle.mime_names.specs.Keys.{IsTableOf}
 use Rattle.mime_names.specs.Rules.{IsIndexedRule, own_plain, plain}
 use Rattle.mime_names.specs.declared.indexed_rule.IndexedRule.{IndexedRule}
 use Rattle.mime_names.specs.declared.keys.KeyTable.{KeyTable}
+use Rattle.mime_names.specs.declared.kept.KeptTypes.{KeptTypes}
+use Rattle.mime_names.specs.declared.kept.KeptTypes.TheVariants.{One, Others}
 
 -- each rule has its pattern, its class, its rank and its key
 pub record IsIndex (patterns : List ℕ) (rules : List IndexedRule) (table : KeyTable) : Type 0 where
@@ -31,3 +33,8 @@ plain_index patterns rules = record { given = rules_of_index patterns rules; own
 -- the types that are lent
 abbrev pub texts_of : List (Bor (List ℕ)) → List (List ℕ)
 texts_of kinds = map (λ kind. kind.now) kinds
+
+-- the types that are kept, one of which is held in place
+abbrev pub held_types : KeptTypes → List (List ℕ)
+held_types (One kind) = kind.now ∷ []
+held_types (Others kinds) = texts_of kinds.items

@@ -9,6 +9,8 @@ use mime_base::{Meter, as_compared};
 /// Whether a name ends with a text, by bytes that stand for themselves.
 ///
 /// The meter counts the bytes of the name that are compared.
+// Always inlined, as its caller is.
+#[inline(always)]
 pub fn ends_so(text: &[u8], cased: bool, name: &[u8], meter: &mut Meter) -> bool
     // Then the name's last bytes are compared as the text is.
     ensures so { result ≡ true → (length text.now ≤ length name.now) × EndsSo cased text.now name.now }

@@ -3,6 +3,7 @@
 ghost use Rattle.std.specs.Prelude.{◌≡◌, ◌<◌, ℕ, List, ◌∷◌, get_or, length, map, IfOk};
 ghost use Rattle.std.specs.List.{All};
 ghost use Rattle.mime_base.specs.Kept.{FitsRank};
+ghost use Rattle.mime_base.specs.Matching.Matches.{rule_matches};
 ghost use Rattle.mime_names.specs.Rules.{IsEntryOf, IsIndexedRule, is_match, own_named, own_plain, pattern_of, plain, plain_named};
 
 use crate::ending::ends_so;
@@ -117,7 +118,8 @@ pub fn pattern_of<'b>(patterns: &'b [u8], rule: &IndexedRule<'_>) -> &'b [u8]
 }
 
 /// Whether a rule matches a name.
-#[inline]
+// Always inlined: most rules are texts, which a call of it would take as long as.
+#[inline(always)]
 pub fn is_match(patterns: &[u8], rule: &IndexedRule<'_>, name: &[u8], meter: &mut Meter) -> bool
     // The rule's pattern is one of these.
     requires own { IsIndexedRule patterns.now rule.now }
@@ -130,8 +132,18 @@ pub fn is_match(patterns: &[u8], rule: &IndexedRule<'_>, name: &[u8], meter: &mu
     match rule.class {
         Class::Literal => pattern.len() == name.len() && ends_so(pattern, rule.cased, name, meter),
         Class::Suffix => ends_so(after_first(pattern), rule.cased, name, meter),
-        Class::Full => glob_matches(pattern, rule.cased, name, meter),
+        Class::Full => is_general_match(pattern, rule.cased, name, meter),
     }
+}
+
+/// Whether a pattern matches a name, whatever it is.
+// Never inlined: for most names no such pattern is asked.
+#[inline(never)]
+fn is_general_match(pattern: &[u8], cased: bool, name: &[u8], meter: &mut Meter) -> bool
+    ensures exact { result ≡ rule_matches pattern.now cased name.now }
+    ensures nodes { meter.new.nodes ≡ meter.old.nodes }
+{
+    glob_matches(pattern, cased, name, meter)
 }
 
 /// What stands after a text's first byte.

@@ -5,17 +5,30 @@ ghost use Rattle.std.specs.List.{All};
 ghost use Rattle.std.specs.List.Sorted.{IsNonDecreasing};
 ghost use Rattle.mime_base.specs.Kept.{hits, kept_rules, of_greatest, rank_of_rule};
 ghost use Rattle.mime_names.specs.Chains.{AreBelow};
-ghost use Rattle.mime_names.specs.Index.{texts_of};
+ghost use Rattle.mime_names.specs.Index.{held_types, texts_of};
+ghost use Rattle.mime_names.specs.Keys.{Fronts, IsTableOf};
 ghost use Rattle.mime_names.specs.Near.{near_nodes, near_rules, near_texts};
-ghost use Rattle.mime_names.specs.Places.{AreNear};
-ghost use Rattle.mime_names.specs.Rules.{IsIndexedRule, hits_of, is_text_rule, plain};
+ghost use Rattle.mime_names.specs.Places.{AreNear, CountsPlaces};
+ghost use Rattle.mime_names.specs.Rules.{IsIndexedRule, hits_of, is_text_rule, others, plain};
 ghost use Rattle.mime_names.specs.declared.indexed_rule.IndexedRule as spec;
 
 use crate::index::NameIndex;
 use crate::indexed_rule::{IndexedRule, is_match, rule_at};
+use crate::keys::KeyTable;
+use crate::leader::{Leading, leading_kind};
 use crate::places::{front_places, text_places};
 use mime_base::{Best, Meter, OutOfMemory};
+use smallvec::SmallVec;
 use std::alloc::Global;
+
+/// The types of the rules that are kept for a name.
+#[derive(Drop)]
+pub enum KeptTypes<'a> {
+    /// One type, of one rule: it is held in place.
+    One(&'a [u8]),
+    /// Those of more rules in their order, or none.
+    Others(Vec<&'a [u8]>),
+}
 
 /// The types of the rules that are kept of those that match a name, in their order.
 ///
@@ -35,13 +48,74 @@ pub fn kept_kinds<'a>(
     ensures texts { 0 < length (filter is_text_rule (hits index.now.given name.now)) →
         meter.new.nodes ≤ meter.old.nodes + near_nodes (length name.now) (near_texts name.now index.now.given) }
 {
-    let texts = text_places(alloc, &index.table, name, meter)?;
-    let kept = best_kinds(alloc, &index.patterns, &index.rules, &texts, name, meter)?;
-    if kept.len() > 0 {
-        return Ok(kept);
+    match kept_types(alloc, index, name, meter)? {
+        KeptTypes::One(kind) => {
+            let mut kinds = Vec::new(alloc);
+            kinds.push(kind)?;
+            Ok(kinds)
+        }
+        KeptTypes::Others(kinds) => Ok(kinds),
     }
-    let others = front_places(alloc, &index.table, name, meter)?;
-    let kinds = best_kinds(alloc, &index.patterns, &index.rules, &others, name, meter)?;
+}
+
+/// The types of the rules that are kept of those that match a name, as [`kept_kinds`] gives them, but that one of them is held in place:
+/// for most names nothing is allocated.
+pub fn kept_types<'a>(
+    alloc: Global,
+    index: &NameIndex<'a>,
+    name: &[u8],
+    meter: &mut Meter,
+) -> Result<KeptTypes<'a>, OutOfMemory>
+    // They are the types of the kept rules.
+    ensures kept { IfOk result (λ types. held_types types ≡ map (λ rule. rule.kind) (kept_rules index.now name.now)) }
+    // Three nodes are counted for each byte of the name, six, and one for each rule near it, and no more.
+    ensures near { meter.new.nodes ≤ meter.old.nodes + near_nodes (length name.now) (near_rules name.now index.now) }
+    // For a name that a text matches, or a star and a text, no other rules count.
+    ensures texts { 0 < length (filter is_text_rule (hits index.now name.now)) →
+        meter.new.nodes ≤ meter.old.nodes + near_nodes (length name.now) (near_texts name.now index.now) }
+{
+    let mut texts = SmallVec::new(alloc);
+    text_places(&mut texts, &index.table, name, meter)?;
+    match leading_kind(&index.patterns, &index.rules, &texts, name, meter) {
+        Leading::One(kind) => Ok(KeptTypes::One(kind)),
+        Leading::Several => {
+            let kinds = best_kinds(alloc, &index.patterns, &index.rules, &texts, name, meter)?;
+            Ok(KeptTypes::Others(kinds))
+        }
+        Leading::Nothing => {
+            let kinds = other_kinds(
+                alloc,
+                &index.patterns,
+                &index.rules,
+                &index.table,
+                name,
+                meter,
+            )?;
+            Ok(KeptTypes::Others(kinds))
+        }
+    }
+}
+
+/// The types of the rules of the greatest rank that match a name, of those that are no text and no star before a text.
+// Never inlined: most names don't come here.
+#[inline(never)]
+fn other_kinds<'a>(
+    alloc: Global,
+    patterns: &[u8],
+    rules: &[IndexedRule<'a>],
+    table: &KeyTable,
+    name: &[u8],
+    meter: &mut Meter,
+) -> Result<Vec<&'a [u8]>, OutOfMemory>
+    requires own { All (IsIndexedRule patterns.now) rules.now }
+    requires keyed { IsTableOf table.now patterns.now rules.now }
+    ensures kept { IfOk result (λ kinds. kinds.items ≡ map (λ rule. rule.kind) (of_greatest (λ rule. rank_of_rule (plain patterns.now rule))
+        (hits_of patterns.now (others patterns.now) rules.now name.now))) }
+    ensures steps { CountsPlaces (Fronts name.now) table.now.keys.items meter.old.nodes 2 meter.new.nodes }
+{
+    let mut fronts = SmallVec::new(alloc);
+    front_places(&mut fronts, table, name, meter)?;
+    let kinds = best_kinds(alloc, patterns, rules, &fronts, name, meter)?;
     Ok(kinds)
 }
 

@@ -1,6 +1,6 @@
 //! The places of the rules whose keys a name asks for.
 
-ghost use Rattle.std.specs.Prelude.{◌≡◌, ◌⊎◌, ℕ, ◌+◌, ◌*◌, ◌≤◌, ◌<◌, length, IfOk, OnOk};
+ghost use Rattle.std.specs.Prelude.{◌≡◌, [], ◌⊎◌, ℕ, ◌+◌, ◌*◌, ◌≤◌, ◌<◌, length, IfOk, OnOk};
 ghost use Rattle.std.specs.List.Sorted.{IsNonDecreasing, IsPermutation};
 ghost use Rattle.mime_names.specs.Chains.{AddsPlaces, GathersPlaces, Walks};
 ghost use Rattle.mime_names.specs.Keys.{Begins, IsEndKey, Fronts, IsTable, node_key};
@@ -15,46 +15,47 @@ use mime_base::{Meter, OutOfMemory, as_compared};
 use smallvec::SmallVec;
 use std::alloc::Global;
 
-/// The places of the rules of a name's endings, and of the whole name, in rising order.
+/// Finds the places of the rules of a name's endings, and of the whole name, in rising order.
 pub fn text_places(
-    alloc: Global,
+    found: &mut Found,
     table: &KeyTable,
     name: &[u8],
     meter: &mut Meter,
-) -> Result<Found, OutOfMemory>
+) -> Result<(), OutOfMemory>
     // It is a table.
-    requires { IsTable table.now }
+    requires table { IsTable table.now }
+    // No place was found yet.
+    requires none { found.old.items ≡ [] }
     // They are of just the rules of the keys that the name's endings and the whole name have.
-    ensures near { IfOk result (λ places. AreSortedPlaces (IsEndKey table.now.tree (spelled name.now))
-        table.now.keys.items places.items) }
+    ensures near { OnOk result (AreSortedPlaces (IsEndKey table.now.tree (spelled name.now)) table.now.keys.items found.new.items) }
     // At most two nodes are counted for each byte of the name, three, and one for each of these places.
     ensures steps { CountsPlaces (IsEndKey table.now.tree (spelled name.now)) table.now.keys.items
         meter.old.nodes (2 * length name.now + 3) meter.new.nodes }
 {
-    let mut found = SmallVec::new(alloc);
-    push_endings(&mut found, table, name, meter)?;
-    in_order(&mut found);
-    Ok(found)
+    push_endings(found, table, name, meter)?;
+    in_order(found);
+    Ok(())
 }
 
-/// The places of the rules of a name's first byte, and of those that any name may match, in rising order.
+/// Finds the places of the rules of a name's first byte, and of those that any name may match, in rising order.
 pub fn front_places(
-    alloc: Global,
+    found: &mut Found,
     table: &KeyTable,
     name: &[u8],
     meter: &mut Meter,
-) -> Result<Found, OutOfMemory>
+) -> Result<(), OutOfMemory>
     // It is a table.
-    requires { IsTable table.now }
+    requires table { IsTable table.now }
+    // No place was found yet.
+    requires none { found.old.items ≡ [] }
     // They are of just the rules of these two keys.
-    ensures near { IfOk result (λ places. AreSortedPlaces (Fronts name.now) table.now.keys.items places.items) }
+    ensures near { OnOk result (AreSortedPlaces (Fronts name.now) table.now.keys.items found.new.items) }
     // Two nodes are counted at most, and one for each of these places.
     ensures steps { CountsPlaces (Fronts name.now) table.now.keys.items meter.old.nodes 2 meter.new.nodes }
 {
-    let mut found = SmallVec::new(alloc);
-    push_fronts(&mut found, table, name, meter)?;
-    in_order(&mut found);
-    Ok(found)
+    push_fronts(found, table, name, meter)?;
+    in_order(found);
+    Ok(())
 }
 
 /// The places of the rules of both, in rising order.

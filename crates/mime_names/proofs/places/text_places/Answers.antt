@@ -7,7 +7,7 @@ use Rattle.mime_names.proofs.places.text_places.Goals as goal
 pub returns-clause-near : goal.returns-clause-near
 returns-clause-near c =
     sorted_places (IsEndKey c.args.table.now.tree (spelled c.args.name.now)) c.args.table.now.keys.items
-    _ c.push_endings.new.found.items c.in_order.new.places.items c.new-found.ensures.items c.in_ok-push_endings.ensures.gathers
+    _ c.push_endings.new.found.items c.in_order.new.places.items c.requires.none c.in_ok-push_endings.ensures.gathers
     c.push_endings.ensures.adds
     c.in_order.ensures.permutation c.in_order.ensures.sorted
 
@@ -15,10 +15,10 @@ pub returns-clause-steps : goal.returns-clause-steps
 returns-clause-steps c =
     counts_places (IsEndKey c.args.table.now.tree (spelled c.args.name.now)) c.args.table.now.keys.items _ c.push_endings.new.found.items
     c.args.meter.now.nodes (2 * length c.args.name.now + 3) c.push_endings.new.meter.nodes
-    c.new-found.ensures.items c.push_endings.ensures.adds (omega (arith, c.push_endings.ensures.steps))
+    c.requires.none c.push_endings.ensures.adds (omega (arith, c.push_endings.ensures.steps))
 
 pub returns-in_err-push_endings-clause-steps : goal.returns-in_err-push_endings-clause-steps
 returns-in_err-push_endings-clause-steps c =
     counts_places (IsEndKey c.args.table.now.tree (spelled c.args.name.now)) c.args.table.now.keys.items _ c.push_endings.new.found.items
     c.args.meter.now.nodes (2 * length c.args.name.now + 3) c.push_endings.new.meter.nodes
-    c.new-found.ensures.items c.push_endings.ensures.adds (omega (arith, c.push_endings.ensures.steps))
+    c.requires.none c.push_endings.ensures.adds (omega (arith, c.push_endings.ensures.steps))
