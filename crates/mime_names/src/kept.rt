@@ -60,6 +60,8 @@ pub fn kept_kinds<'a>(
 
 /// The types of the rules that are kept of those that match a name, as [`kept_kinds`] gives them, but that one of them is held in place:
 /// for most names nothing is allocated.
+// Always inlined: what it gives is not moved.
+#[inline(always)]
 pub fn kept_types<'a>(
     alloc: Global,
     index: &NameIndex<'a>,

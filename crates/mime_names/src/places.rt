@@ -16,6 +16,8 @@ use smallvec::SmallVec;
 use std::alloc::Global;
 
 /// Finds the places of the rules of a name's endings, and of the whole name, in rising order.
+// Always inlined, as its caller is.
+#[inline(always)]
 pub fn text_places(
     found: &mut Found,
     table: &KeyTable,
@@ -82,7 +84,8 @@ pub fn all_places(
 }
 
 /// Sorts places.
-#[inline]
+// Always inlined: most are one or two.
+#[inline(always)]
 fn in_order(places: &mut Found)
     ensures sorted { IsNonDecreasing places.new.items }
     ensures permutation { IsPermutation places.old.items places.new.items }
@@ -159,6 +162,8 @@ fn push_key(
 }
 
 /// Adds the places of the rules of a name's endings, and of the whole name.
+// Always inlined, as its callers are.
+#[inline(always)]
 fn push_endings(
     found: &mut Found,
     table: &KeyTable,

@@ -3,3 +3,4 @@ pub mod FirstNames
 pub mod Pieces
 pub mod Takings
 pub mod Readings
+pub mod LastSlash

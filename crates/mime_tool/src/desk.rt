@@ -165,6 +165,8 @@ impl<F: Files, O: Sink, E: Sink> Desk for Streams<'_, '_, '_, F, O, E> {
         }
     }
 
+    // Always inlined: how long most pieces are is known where they are printed.
+    #[inline(always)]
     fn print(&mut self, pieces: &[&[u8]]) -> Result<(), Stop> {
         put_all(self.out, pieces)?;
         Ok(())

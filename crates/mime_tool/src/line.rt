@@ -25,6 +25,7 @@ use crate::words::{RawWord, name_of};
 pub(crate) use escape::escaped;
 use lookup::free;
 pub(crate) use lookup::{Cost, Data, Lookup, asked_order, find, name_for};
+use memchr::memrchr;
 use mime_base::OutOfMemory;
 use mime_lookup::Content;
 use mime_request::Output;
@@ -287,6 +288,8 @@ fn told(alloc: Global, cost: Cost) -> Result<String, AllocError>
     format!(in alloc; " nodes={nodes} bytes={bytes} read={read}")
 }
 
+// Always inlined, as its caller is.
+#[inline(always)]
 fn print_pieces<'a, D: Desk>(
     desk: &mut D,
     output: Output,
@@ -335,9 +338,8 @@ pub(crate) fn refuse<D: Desk>(desk: &mut D, file: &[u8], why: &str) -> Result<u8
 fn base_name(file: &[u8]) -> &[u8]
     ensures { result.now ≡ base_name file.entry.now }
 {
-    let mut start = file.len();
-    while start > 0 && file[start - 1] != b'/' {
-        start -= 1;
+    match memrchr(b'/', file) {
+        Some(slash) => &file[slash + 1..],
+        None => file,
     }
-    &file[start..]
 }

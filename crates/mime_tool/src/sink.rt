@@ -72,6 +72,8 @@ impl Sink for Vec<u8> {
 }
 
 /// Puts the pieces, one after another.
+// Always inlined, as its caller is.
+#[inline(always)]
 pub(crate) fn put_all<S: Sink>(sink: &mut S, pieces: &[&[u8]]) -> Result<(), SinkFault>
     // The sink takes all the pieces, or what they begin with where memory runs out.
     ensures { IsPut (S.holds sink.old) (S.holds sink.new) result

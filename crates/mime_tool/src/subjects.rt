@@ -135,6 +135,8 @@ fn print_each<D: Desk, R: Content + Drop>(
 }
 
 // Prints the line of the name of this number, or says that it is empty.
+// Always inlined: it is called at one place.
+#[inline(always)]
 fn print_name<D: Desk>(
     desk: &mut D,
     prepared: &mut Prepared<'_, '_>,
