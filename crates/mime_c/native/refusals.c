@@ -107,16 +107,30 @@ static mimelook_report hits(bool *is_left) {
     return report;
 }
 
-/* The status of a merging, as a report. */
-static mimelook_report merge(bool *is_left) {
+/* A directory of which some of each file is merged. */
+static mimelook_directory directory(void) {
     static const char globs2[] = "50:t/m:mk\n60:t/z:*.z\n70:t/y:[ab]*.y\n", aliases[] = "t/h t/g\n", icons[] = "t/g:lens\n";
     static const char magic[] = "MIME-Magic\0\n[40:t/g]\n>0=\0\2\x1f\x8b&\xff\xff\n1>4=\0\1x\n";
     mimelook_text text = {bytes_of(aliases), sizeof aliases - 1}, icon = {bytes_of(icons), sizeof icons - 1};
-    mimelook_directory directory = {{bytes_of(globs2), sizeof globs2 - 1}, {bytes_of(magic), sizeof magic - 1}, text, text, icon, icon};
+    return (mimelook_directory){{bytes_of(globs2), sizeof globs2 - 1}, {bytes_of(magic), sizeof magic - 1}, text, text, icon, icon};
+}
+
+/* The status of a merging, as a report. */
+static mimelook_report merge(bool *is_left) {
+    mimelook_directory one = directory();
     uint8_t cache[1024] = "before";
     size_t length = 77;
-    mimelook_merge_report report = mimelook_merge(&directory, 1, cache, sizeof cache, &length);
+    mimelook_merge_report report = mimelook_merge(&one, 1, cache, sizeof cache, &length);
     *is_left = cache[0] == 'b' && length == 77;
+    return (mimelook_report){.status = report.status};
+}
+
+static mimelook_report open_directories(bool *is_left) {
+    mimelook_directory one = directory();
+    mimelook_database *database = (mimelook_database *)(uintptr_t)7;
+    mimelook_merge_report report = mimelook_open_directories(&one, 1, &database);
+    *is_left = database == NULL;
+    mimelook_close(database);
     return (mimelook_report){.status = report.status};
 }
 
@@ -262,6 +276,7 @@ int main(void) {
     make_many();
     refuse_in_turn("hits", hits);
     refuse_in_turn("open", open_sample);
+    refuse_in_turn("open_directories", open_directories);
     refuse_in_turn("database_look_up by name", database_by_name);
     refuse_in_turn("database_look_up by content", database_by_content);
     refuse_in_turn("database_is_a", database_is_a);

@@ -84,7 +84,7 @@ module _ {M : Type 1} {𝓤 : Ura M} {𝓛 : Logic 𝓤} {K : Type 0} {Γ : List
 
   -- a handle by value is its address and what C owns
   pub handle_out : K → (d : HandleRow.Denot) (vs : List Val)
-      → ((h : Val) → vs ≡ both (ptr_val d.address) h ∷ [] → Good (layout Z) h → Seq K 𝓛 (‵ (owns_open d.alloc d.address d.cache)
+      → ((h : Val) → vs ≡ both (ptr_val d.address) h ∷ [] → Good (layout Z) h → Seq K 𝓛 (‵ (owns_open d.alloc d.address d.opened)
       ∷ ‵ (Z.own_val d.alloc (h ∷ [])) ∷ Γ) G)
       → Seq K 𝓛 (‵ (HandleRow.own_val d vs) ∷ Γ) G
   handle_out t d vs k =
@@ -95,7 +95,7 @@ module _ {M : Type 1} {𝓤 : Ura M} {𝓛 : Logic 𝓤} {K : Type 0} {Γ : List
 
   -- what a call gives back is made of what C owns
   pub kept_in : K → (p : Ptr) (h : Val) (a : Z.Denot) (m : Option R.Denot)
-      → Step K 𝓛 (‵ (KeptRow.own_val (record { alloc = a; address = p; cache = m }) (one h ∷ [])) ∷ Γ) G (‵ (owns_open a p m)
+      → Step K 𝓛 (‵ (KeptRow.own_val (record { alloc = a; address = p; opened = m }) (one h ∷ [])) ∷ Γ) G (‵ (owns_open a p m)
       ∷ ‵ (Z.own_val a (h ∷ [])) ∷ Γ) G
   kept_in t p h a m = step (λ s. let v : Val = one h in
       nothing t $ move t (2 ∷ 0 ∷ []) $ fjoin t $ feq_i t (List Val) (v ∷ []) (v ∷ []) refl $ fjoin t $

@@ -15,6 +15,8 @@ pub mod Hits
 pub mod Sniff
 pub mod Merge
 pub mod HeapValue
+pub mod Opened
 pub mod Owned
 pub mod Handle
 pub mod Open
+pub mod OpenDirectories

@@ -12,10 +12,12 @@
 //! and the report. So what C owes between calls is what an owner owes: it closes a database once, and asks it no more then. NULL is no
 //! database, and is answered so.
 //!
-//! A clause sees a database as the bytes of its cache. The cache's bytes are taken to last for good, since a clause can't say that they do
-//! until a database is closed: so C must not let go of them before.
+//! A clause sees a database as the bytes of its cache, and the memory that closing gives back. The cache's bytes are taken to last for
+//! good, since a clause can't say that they do until a database is closed: so C must not let go of them before. Those of a cache that was
+//! made of directories do last for good here: closing gives their memory to C, which frees it.
 
 pub mod close;
+pub mod directories;
 pub mod extent;
 mod handle;
 mod heap_value;
@@ -32,4 +34,4 @@ pub mod sniff;
 pub mod unalias;
 
 pub use handle::Handle;
-pub use kept::{HandleReport, Kept};
+pub use kept::{DirectoriesReport, HandleReport, Kept};

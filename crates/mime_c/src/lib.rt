@@ -34,7 +34,8 @@ mod type_names;
 mod unalias;
 
 pub use check::mimelook_check;
-pub use database::close::mimelook_close;
+pub use database::close::close_database;
+pub use database::directories::open_directories;
 pub use database::extent::mimelook_database_extent;
 pub use database::hits::mimelook_database_hits;
 pub use database::icons::mimelook_database_icons;
@@ -45,7 +46,7 @@ pub use database::open::mimelook_open;
 pub use database::parents::mimelook_database_parents;
 pub use database::sniff::mimelook_database_sniff;
 pub use database::unalias::mimelook_database_unalias;
-pub use database::{Handle, HandleReport, Kept};
+pub use database::{DirectoriesReport, Handle, HandleReport, Kept};
 pub use extent::mimelook_extent;
 pub use hits::{Hit, mimelook_hits};
 pub use icons::{IconLengths, mimelook_icons};

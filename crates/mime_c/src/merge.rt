@@ -28,7 +28,7 @@ pub struct MergeReport {
 
 /// Why there is no cache.
 #[derive(Clone, Copy, Debug)]
-enum MergeFault {
+pub(crate) enum MergeFault {
     /// The first directory whose `magic` is refused, and its first fault.
     Magic {
         directory: usize,
@@ -99,8 +99,12 @@ fn put_cache(bytes: &[u8], buffer: &mut [u8], length: &mut usize) -> MergeReport
     merge_status(ANSWERED)
 }
 
-// The cache of the directories.
-fn merged_cache(alloc: Global, directories: &[DirTexts<'_>]) -> Result<Vec<u8>, MergeFault>
+/// The cache of the directories.
+pub(crate) fn merged_cache(
+    alloc: Global,
+    directories: &[DirTexts<'_>],
+) -> Result<Vec<u8>, MergeFault>
+    // It is a cache of what they say, or why there is none.
     ensures { MatchResult result (λ cache. IsCacheOfDirs directories.now cache.items) (IsMergeFault directories.now) }
 {
     let files = match read_dirs(alloc, directories) {
@@ -117,8 +121,9 @@ fn merged_cache(alloc: Global, directories: &[DirTexts<'_>]) -> Result<Vec<u8>, 
     }
 }
 
-// A status alone.
-fn merge_status(status: u32) -> MergeReport
+/// A status alone.
+pub(crate) fn merge_status(status: u32) -> MergeReport
+    // A report of this status, with no fault.
     ensures { result ≡ merge_status status }
 {
     MergeReport {
@@ -130,8 +135,9 @@ fn merge_status(status: u32) -> MergeReport
     }
 }
 
-// Why there is no cache.
-fn merge_fault_report(fault: MergeFault) -> MergeReport
+/// Why there is no cache.
+pub(crate) fn merge_fault_report(fault: MergeFault) -> MergeReport
+    // A report of the fault's status and its place.
     ensures { result ≡ merge_fault_report fault }
 {
     match fault {

@@ -20,10 +20,10 @@ pub extern "C" fn mimelook_database_extent(
     extent: &mut u64,
 ) -> HandleReport
     // It is what is given over the bytes; where nothing is open, the number stays.
-    ensures promises { IsByHandle database.cache (λ cache told. IsAskedExtent cache extent.old extent.new told)
+    ensures promises { IsByHandle database.opened (λ cache told. IsAskedExtent cache extent.old extent.new told)
         (extent.new ≡ extent.old) result.report }
     // What is open stays so, where it lies.
-    ensures stays { StaysOpen database.address database.cache result.kept }
+    ensures stays { StaysOpen database.address database.opened result.kept }
 {
     match database.into_value() {
         Some(mut opened) => {
@@ -36,7 +36,7 @@ pub extern "C" fn mimelook_database_extent(
 
 // The same of what is open.
 fn ask(opened: &OpenDatabase, extent: &mut u64) -> Report
-    ensures { IsAskedExtent opened.now extent.old extent.new result }
+    ensures { IsAskedExtent opened.now.cache extent.old extent.new result }
 {
     let mut meter = Meter::new();
     let found = extent_of(opened.cache(), &mut meter);

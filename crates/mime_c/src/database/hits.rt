@@ -27,10 +27,10 @@ pub extern "C" fn mimelook_database_hits(
     count: &mut usize,
 ) -> HandleReport
     // They are what is given over the bytes; where nothing is open, the array and the count stay.
-    ensures promises { IsByHandle database.cache (λ cache told. IsAskedHits cache name.now (record { hits = hits.old; count = count.old })
+    ensures promises { IsByHandle database.opened (λ cache told. IsAskedHits cache name.now (record { hits = hits.old; count = count.old })
         (record { hits = hits.new; count = count.new }) told) ((hits.new ≡ hits.old) × (count.new ≡ count.old)) result.report }
     // What is open stays so, where it lies.
-    ensures stays { StaysOpen database.address database.cache result.kept }
+    ensures stays { StaysOpen database.address database.opened result.kept }
 {
     match database.into_value() {
         Some(mut opened) => {
@@ -50,7 +50,7 @@ fn ask(
     count: &mut usize,
 ) -> Report
     ensures same { opened.new ≡ opened.old }
-    ensures promises { IsAskedHits opened.old name.now (record { hits = hits.old; count = count.old })
+    ensures promises { IsAskedHits opened.old.cache name.now (record { hits = hits.old; count = count.old })
         (record { hits = hits.new; count = count.new }) result }
 {
     if name.len() > LONGEST_NAME {
@@ -70,8 +70,9 @@ fn search(
 ) -> Result<RuleHits<'static>, CacheFault>
     requires short { length name.now ≤ 4096 }
     ensures same { opened.new ≡ opened.old }
-    ensures promises { IsOfCache opened.old (IsHits opened.old name.now) result }
-    ensures cost { Looks (hits_nodes (length name.now) (length opened.old) - 1) (hits_bytes (length name.now) (length opened.old))
+    ensures promises { IsOfCache opened.old.cache (IsHits opened.old.cache name.now) result }
+    ensures cost { Looks (hits_nodes (length name.now) (length opened.old.cache) - 1) (hits_bytes (length name.now)
+        (length opened.old.cache))
         meter.old meter.new }
 {
     opened.read_paid(alloc);

@@ -25,12 +25,12 @@ pub extern "C" fn mimelook_database_icons(
     lengths: &mut IconLengths,
 ) -> HandleReport
     // They are what is given over the bytes; where nothing is open, the buffers and their lengths stay.
-    ensures promises { IsByHandle database.cache (λ cache told. IsAskedIcons cache kind.now
+    ensures promises { IsByHandle database.opened (λ cache told. IsAskedIcons cache kind.now
         (record { icon = icon.old; generic = generic.old; lengths = lengths.old })
         (record { icon = icon.new; generic = generic.new; lengths = lengths.new }) told)
         ((icon.new ≡ icon.old) × (generic.new ≡ generic.old) × (lengths.new ≡ lengths.old)) result.report }
     // What is open stays so, where it lies.
-    ensures stays { StaysOpen database.address database.cache result.kept }
+    ensures stays { StaysOpen database.address database.opened result.kept }
 {
     match database.into_value() {
         Some(mut opened) => {
@@ -51,7 +51,7 @@ fn ask(
     lengths: &mut IconLengths,
 ) -> Report
     ensures same { opened.new ≡ opened.old }
-    ensures promises { IsAskedIcons opened.old kind.now
+    ensures promises { IsAskedIcons opened.old.cache kind.now
         (record { icon = icon.old; generic = generic.old; lengths = lengths.old })
         (record { icon = icon.new; generic = generic.new; lengths = lengths.new }) result }
 {
@@ -72,7 +72,7 @@ fn find(
     lengths: &mut IconLengths,
 ) -> Report
     ensures same { opened.new ≡ opened.old }
-    ensures promises { IsFoundIcons opened.old kind.now
+    ensures promises { IsFoundIcons opened.old.cache kind.now
         (record { icon = icon.old; generic = generic.old; lengths = lengths.old })
         (record { icon = icon.new; generic = generic.new; lengths = lengths.new }) result }
 {
@@ -85,7 +85,7 @@ fn find(
 // The icons of a type name.
 fn search(alloc: Global, opened: &mut OpenDatabase, kind: &[u8]) -> Result<Icons, Stopped>
     ensures same { opened.new ≡ opened.old }
-    ensures promises { IsIcons opened.old kind.now result }
+    ensures promises { IsIcons opened.old.cache kind.now result }
 {
     opened.read_paid(alloc);
     let found = icon_again(alloc, opened.indexed(), kind);

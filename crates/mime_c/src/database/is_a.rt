@@ -25,10 +25,10 @@ pub extern "C" fn mimelook_database_is_a(
     is: &mut bool,
 ) -> HandleReport
     // It is what is given over the bytes; where nothing is open, the flag stays.
-    ensures promises { IsByHandle database.cache (λ cache told. IsAsked cache kind.now base.now is.old is.new told)
+    ensures promises { IsByHandle database.opened (λ cache told. IsAsked cache kind.now base.now is.old is.new told)
         (is.new ≡ is.old) result.report }
     // What is open stays so, where it lies.
-    ensures stays { StaysOpen database.address database.cache result.kept }
+    ensures stays { StaysOpen database.address database.opened result.kept }
 {
     match database.into_value() {
         Some(mut opened) => {
@@ -42,7 +42,7 @@ pub extern "C" fn mimelook_database_is_a(
 // The same of what is open.
 fn ask(alloc: Global, opened: &mut OpenDatabase, kind: &[u8], base: &[u8], is: &mut bool) -> Report
     ensures same { opened.new ≡ opened.old }
-    ensures promises { IsAsked opened.old kind.now base.now is.old is.new result }
+    ensures promises { IsAsked opened.old.cache kind.now base.now is.old is.new result }
 {
     if is_type_name(kind) && is_type_name(base) {
         let found = search(alloc, opened, kind, base);
@@ -61,7 +61,7 @@ fn search(
 ) -> Result<(bool, Meter), Stopped>
     requires base { is_type_name base.now ≡ true }
     ensures same { opened.new ≡ opened.old }
-    ensures promises { IsSubclassSearch opened.old kind.now base.now result }
+    ensures promises { IsSubclassSearch opened.old.cache kind.now base.now result }
     ensures readable { IfErr result (λ stopped. stopped.cause ≢ Cause.Read) }
 {
     opened.read_paid(alloc);

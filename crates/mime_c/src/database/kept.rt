@@ -1,13 +1,15 @@
 //! What a call by a handle gives back.
 
-ghost use Rattle.std.specs.Prelude.{◌≡◌, ℕ, List, Option, Some, None};
+ghost use Rattle.std.specs.Prelude.{◌≡◌, Option, Some, None};
 ghost use denote.RawPtr.{Ptr, coded_ptr, null_ptr};
+ghost use Rattle.mime_c.specs.Opened.{Opened};
 ghost use Rattle.mime_c.specs.Owned.{owns_open};
 ghost use Rattle.mime_c.specs.Report.{IsStatusAlone};
 ghost use Rattle.mime_c.specs.Status.{status_not_open};
 
 use crate::database::heap_value::HeapValue;
 use crate::database::open_database::OpenDatabase;
+use crate::merge::MergeReport;
 use crate::report::{Report, status_report};
 use crate::status::NOT_OPEN;
 use mime_base::Meter;
@@ -20,12 +22,12 @@ pub struct Kept {
     alloc: Global,
     /// The address.
     pub ghost address: { Ptr } by { coded_ptr },
-    /// The bytes of the cache that is open, if one is.
-    pub ghost cache: { Option (List ℕ) },
+    /// What is open, if anything is.
+    pub ghost opened: { Option Opened },
 }
 
 impl Model for Kept {
-    ghost also_owns = { λ it. owns_open it.alloc it.address it.cache };
+    ghost also_owns = { λ it. owns_open it.alloc it.address it.opened };
 }
 
 /// A report, with what lies at the handle's address. To C it is the report alone.
@@ -37,11 +39,20 @@ pub struct HandleReport {
     pub kept: Kept,
 }
 
+/// A report of a merging, with what is open after it. To C it is the report alone.
+#[repr(C)]
+pub struct DirectoriesReport {
+    /// The report.
+    pub report: MergeReport,
+    /// What is open.
+    pub kept: Kept,
+}
+
 impl Kept {
     /// The address of what is open, and the right to it.
     pub(super) fn of(opened: HeapValue<OpenDatabase, Global>) -> (*mut u8, Kept)
         // Both are of what is open, where it lies.
-        ensures { (result.0 ≡ opened.address) × (result.1.address ≡ opened.address) × (result.1.cache ≡ Some opened.value) }
+        ensures { (result.0 ≡ opened.address) × (result.1.address ≡ opened.address) × (result.1.opened ≡ Some opened.value) }
     {
         let HeapValue { address, alloc } = opened;
         (address as *mut u8, Kept { alloc })
@@ -50,7 +61,7 @@ impl Kept {
     /// Nothing, at NULL.
     pub(super) fn nothing(alloc: Global) -> Kept
         // There is nothing at NULL.
-        ensures { (result.address ≡ null_ptr) × (result.cache ≡ None) }
+        ensures { (result.address ≡ null_ptr) × (result.opened ≡ None) }
     {
         Kept { alloc }
     }
@@ -64,7 +75,7 @@ impl HandleReport {
         // What is open lies where it lay.
         ensures address { result.kept.address ≡ opened.address }
         // It is the same.
-        ensures cache { result.kept.cache ≡ Some opened.value }
+        ensures opened { result.kept.opened ≡ Some opened.value }
     {
         let (_, kept) = Kept::of(opened);
         HandleReport { report, kept }
@@ -77,7 +88,7 @@ impl HandleReport {
         // There is nothing at NULL.
         ensures address { result.kept.address ≡ null_ptr }
         // Nothing is open.
-        ensures cache { result.kept.cache ≡ None }
+        ensures opened { result.kept.opened ≡ None }
     {
         HandleReport {
             report: status_report(NOT_OPEN, 0, Meter::new()),

@@ -23,10 +23,10 @@ pub extern "C" fn mimelook_database_listed_icons(
     generic: &mut Text<'static>,
 ) -> HandleReport
     // They are what is given over the bytes; where nothing is open, both texts stay.
-    ensures promises { IsByHandle database.cache (λ cache told. IsAskedListedIcons cache kind.now
+    ensures promises { IsByHandle database.opened (λ cache told. IsAskedListedIcons cache kind.now
         (icon.old, generic.old) (icon.new, generic.new) told) ((icon.new ≡ icon.old) × (generic.new ≡ generic.old)) result.report }
     // What is open stays so, where it lies.
-    ensures stays { StaysOpen database.address database.cache result.kept }
+    ensures stays { StaysOpen database.address database.opened result.kept }
 {
     match database.into_value() {
         Some(mut opened) => {
@@ -44,7 +44,7 @@ fn ask(
     icon: &mut Text<'static>,
     generic: &mut Text<'static>,
 ) -> Report
-    ensures { IsAskedListedIcons opened.now kind.now (icon.old, generic.old) (icon.new, generic.new) result }
+    ensures { IsAskedListedIcons opened.now.cache kind.now (icon.old, generic.old) (icon.new, generic.new) result }
 {
     let mut meter = Meter::new();
     let found = listed_names(opened.cache(), kind, &mut meter);

@@ -29,10 +29,10 @@ pub extern "C" fn database_look_up_with(
     answer: &mut TypeAnswer<'static>,
 ) -> HandleReport
     // It is what is given over the bytes; where nothing is open, the answer stays.
-    ensures promises { IsByHandle database.cache (λ cache told. IsLookedUp cache name.now (available_content has_content content.now)
+    ensures promises { IsByHandle database.opened (λ cache told. IsLookedUp cache name.now (available_content has_content content.now)
         (numbered_order order) answer.old answer.new told) (answer.new ≡ answer.old) result.report }
     // What is open stays so, where it lies.
-    ensures stays { StaysOpen database.address database.cache result.kept }
+    ensures stays { StaysOpen database.address database.opened result.kept }
 {
     match database.into_value() {
         Some(mut opened) => {
@@ -62,7 +62,8 @@ fn ask(
     answer: &mut TypeAnswer<'static>,
 ) -> Report
     ensures same { opened.new ≡ opened.old }
-    ensures promises { IsLookedUp opened.old name.now (available_content has_content content.now) (numbered_order order) answer.old answer.new result }
+    ensures promises { IsLookedUp opened.old.cache name.now (available_content has_content content.now) (numbered_order order)
+        answer.old answer.new result }
 {
     let Some(order) = order_of(order) else {
         return status_report(UNKNOWN_ORDER, 0, Meter::new());
@@ -84,7 +85,7 @@ fn ask_content(
     answer: &mut TypeAnswer<'static>,
 ) -> Report
     ensures same { opened.new ≡ opened.old }
-    ensures promises { IsTypedByContent opened.old name.now content.now order answer.old answer.new result }
+    ensures promises { IsTypedByContent opened.old.cache name.now content.now order answer.old answer.new result }
 {
     let found = with_content(alloc, opened, name, content, order);
     tell(found, answer)
@@ -99,7 +100,7 @@ fn ask_name(
     answer: &mut TypeAnswer<'static>,
 ) -> Report
     ensures same { opened.new ≡ opened.old }
-    ensures promises { IsTypedByName opened.old name.now order answer.old answer.new result }
+    ensures promises { IsTypedByName opened.old.cache name.now order answer.old answer.new result }
 {
     let found = without_content(alloc, opened, name, order);
     tell_name(found, answer)
@@ -114,7 +115,7 @@ fn with_content(
     order: Order,
 ) -> Result<Answer<'static>, Stopped>
     ensures same { opened.new ≡ opened.old }
-    ensures promises { IsLookUp opened.old name.now content.now order result }
+    ensures promises { IsLookUp opened.old.cache name.now content.now order result }
     ensures readable { IfErr result (λ stopped. stopped.cause ≢ Cause.Read) }
 {
     opened.read_paid(alloc);
@@ -148,7 +149,7 @@ fn without_content(
     order: Order,
 ) -> Result<NameAnswer<'static>, Stopped>
     ensures same { opened.new ≡ opened.old }
-    ensures promises { IsNameLookUp opened.old name.now order result }
+    ensures promises { IsNameLookUp opened.old.cache name.now order result }
     ensures readable { IfErr result (λ stopped. stopped.cause ≢ Cause.Read) }
 {
     opened.read_paid(alloc);

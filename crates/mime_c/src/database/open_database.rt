@@ -13,35 +13,50 @@ use std::marker::Model;
 #[derive(Drop)]
 pub struct OpenDatabase {
     paid: PaidCache<'static>,
+    /// The memory that closing gives back.
+    memory: &'static [u8],
 }
 
 impl Model for OpenDatabase {
-    ghost use Rattle.std.specs.Prelude.{ℕ, List};
+    ghost use Rattle.mime_c.specs.Opened.{Opened};
 
-    ghost Value = { List ℕ };
+    ghost Value = { Opened };
 
-    ghost view = { λ it. it.paid.cache };
+    ghost view = { λ it. record { cache = it.paid.cache; memory = it.memory.now } };
 }
 
 impl OpenDatabase {
-    /// Opens the bytes of a cache.
-    pub(super) fn new(bytes: &'static [u8], meter: &mut Meter) -> Result<OpenDatabase, CacheFault>
+    /// Opens the bytes of a cache, with the memory that closing gives back.
+    pub(super) fn new(
+        bytes: &'static [u8],
+        memory: &'static [u8],
+        meter: &mut Meter,
+    ) -> Result<OpenDatabase, CacheFault>
         // It opens the bytes that are a cache; else the first thing that is wrong with their header is the fault.
         ensures opened { MatchResult result
-            (λ opened. (opened ≡ bytes.entry.now) × Opens bytes.entry.now) (IsOpenFault bytes.entry.now) }
+            (λ opened. (opened ≡ record { cache = bytes.entry.now; memory = memory.entry.now }) × Opens bytes.entry.now)
+            (IsOpenFault bytes.entry.now) }
         // At most the header is visited.
         ensures nodes { meter.new.nodes ≤ meter.old.nodes + 1 }
         // Nothing is compared.
         ensures bytes { meter.new.bytes ≡ meter.old.bytes }
     {
         let paid = PaidCache::open(Counted::new(bytes), meter)?;
-        Ok(OpenDatabase { paid })
+        Ok(OpenDatabase { paid, memory })
+    }
+
+    /// The memory that closing gives back.
+    pub(super) fn memory(&self) -> &'static [u8]
+        // It is what this was opened with.
+        ensures { result.now ≡ self.now.memory }
+    {
+        self.memory
     }
 
     /// The cache with what was read back of it.
     pub(super) fn indexed(&self) -> &IndexedCache<'static>
         // It is the cache.
-        ensures { result.now ≡ self.now }
+        ensures { result.now ≡ self.now.cache }
     {
         self.paid.indexed()
     }
@@ -49,9 +64,9 @@ impl OpenDatabase {
     /// The cache, for what there is no index of.
     pub(super) fn cache(&self) -> &Cache<'static>
         // It is the cache.
-        ensures cache { result.now ≡ self.now }
+        ensures cache { result.now ≡ self.now.cache }
         // It did open.
-        ensures opens { Opens self.now }
+        ensures opens { Opens self.now.cache }
     {
         self.indexed().cache()
     }

@@ -23,11 +23,11 @@ pub extern "C" fn mimelook_database_parents(
     count: &mut usize,
 ) -> HandleReport
     // They are what is given over the bytes; where nothing is open, the array and the count stay.
-    ensures promises { IsByHandle database.cache (λ cache told. IsAskedParents cache kind.now
+    ensures promises { IsByHandle database.opened (λ cache told. IsAskedParents cache kind.now
         (record { texts = parents.old; count = count.old }) (record { texts = parents.new; count = count.new }) told)
         ((parents.new ≡ parents.old) × (count.new ≡ count.old)) result.report }
     // What is open stays so, where it lies.
-    ensures stays { StaysOpen database.address database.cache result.kept }
+    ensures stays { StaysOpen database.address database.opened result.kept }
 {
     match database.into_value() {
         Some(mut opened) => {
@@ -46,7 +46,7 @@ fn ask(
     parents: &mut [Text<'static>],
     count: &mut usize,
 ) -> Report
-    ensures { IsAskedParents opened.now kind.now (record { texts = parents.old; count = count.old })
+    ensures { IsAskedParents opened.now.cache kind.now (record { texts = parents.old; count = count.old })
         (record { texts = parents.new; count = count.new }) result }
 {
     let mut meter = Meter::new();

@@ -24,10 +24,10 @@ pub extern "C" fn mimelook_database_sniff(
     sniffed: &mut Sniffed<'static>,
 ) -> HandleReport
     // It is what is given over the bytes; where nothing is open, the struct stays.
-    ensures promises { IsByHandle database.cache (λ cache told. IsAskedSniff cache content.now sniffed.old sniffed.new told)
+    ensures promises { IsByHandle database.opened (λ cache told. IsAskedSniff cache content.now sniffed.old sniffed.new told)
         (sniffed.new ≡ sniffed.old) result.report }
     // What is open stays so, where it lies.
-    ensures stays { StaysOpen database.address database.cache result.kept }
+    ensures stays { StaysOpen database.address database.opened result.kept }
 {
     match database.into_value() {
         Some(mut opened) => {
@@ -46,7 +46,7 @@ fn ask(
     sniffed: &mut Sniffed<'static>,
 ) -> Report
     ensures same { opened.new ≡ opened.old }
-    ensures promises { IsAskedSniff opened.old content.now sniffed.old sniffed.new result }
+    ensures promises { IsAskedSniff opened.old.cache content.now sniffed.old sniffed.new result }
 {
     let found = sniff(alloc, opened, content);
     tell(found, sniffed)
@@ -59,7 +59,7 @@ fn sniff(
     content: &[u8],
 ) -> Result<SniffedContent<'static>, Stopped>
     ensures same { opened.new ≡ opened.old }
-    ensures promises { IsSniffing opened.old content.now Little result }
+    ensures promises { IsSniffing opened.old.cache content.now Little result }
 {
     opened.read_paid(alloc);
     let found = sniff_again(opened.indexed(), content, Host::Little);

@@ -25,10 +25,10 @@ pub extern "C" fn mimelook_database_unalias<'a>(
     resolved: &mut Text<'a>,
 ) -> HandleReport
     // It is what is given over the bytes; where nothing is open, the text stays.
-    ensures promises { IsByHandle database.cache (λ cache told. IsAskedAlias cache kind.entry.now resolved.old resolved.new told)
+    ensures promises { IsByHandle database.opened (λ cache told. IsAskedAlias cache kind.entry.now resolved.old resolved.new told)
         (resolved.new ≡ resolved.old) result.report }
     // What is open stays so, where it lies.
-    ensures stays { StaysOpen database.address database.cache result.kept }
+    ensures stays { StaysOpen database.address database.opened result.kept }
 {
     match database.into_value() {
         Some(mut opened) => {
@@ -41,7 +41,7 @@ pub extern "C" fn mimelook_database_unalias<'a>(
 
 // The same of what is open.
 fn ask<'a>(opened: &OpenDatabase, kind: &'a [u8], resolved: &mut Text<'a>) -> Report
-    ensures { IsAskedAlias opened.now kind.entry.now resolved.old resolved.new result }
+    ensures { IsAskedAlias opened.now.cache kind.entry.now resolved.old resolved.new result }
 {
     let mut meter = Meter::new();
     let found = alias_step(opened, kind, &mut meter);
@@ -54,7 +54,7 @@ fn alias_step<'a>(
     kind: &'a [u8],
     meter: &mut Meter,
 ) -> Result<&'a [u8], CacheFault>
-    ensures promises { IsOfCache opened.now (IsAliasStep opened.now kind.entry.now) result }
+    ensures promises { IsOfCache opened.now.cache (IsAliasStep opened.now.cache kind.entry.now) result }
     ensures cost { Looks 29 (256 * 29) meter.old meter.new }
 {
     let indexed = opened.indexed();

@@ -1,5 +1,6 @@
-use Rattle.std.proofs.Common.{ℕ, List, subst, ◌∙◌}
+use Rattle.std.proofs.Common.{ℕ, List, ap, subst, ◌∙◌}
 use Rattle.mime_c.specs.IsA.{IsSubclassSearch}
+use Rattle.mime_c.specs.Opened.{Opened}
 use Rattle.mime_lookup.proofs.CostLemmas.ShortTexts.{is_type_name-short}
 use Rattle.mime_c.proofs.database.is_a.search.Goals as goal
 
@@ -10,7 +11,7 @@ pub returns-clause-promises : goal.returns-clause-promises
 returns-clause-promises c =
     let is = c.is_a_again-found.ensures in
     subst (λ (cache : List ℕ). IsSubclassSearch cache c.args.kind.now c.args.base.now c.is_a_again-found.result)
-    (c.indexed.ensures ∙ c.read_paid.ensures.same)
+    (c.indexed.ensures ∙ ap (λ (it : Opened). it.cache) c.read_paid.ensures.same)
     (record {
       answer = is.answer;
       stops = is.stops;

@@ -66,7 +66,7 @@ into_value_spec 𝓤 𝓛 𝓜 𝓡 wired =
     let Run : List Val → SProp 𝓤 = λ ws. WpFn 𝓤 H 𝓣.C 𝓣.Λ fn ws Post in
     qed 𝓛 ((‵ ftrue ⊛ ‵ (owns (types_at ended.signature.params κs) z.0.3 z.0.4)) ∷ raw ((c κs z.0.3).requires z.1) ∷ []) ∵ split ! $
     move ! (1 ∷ []) $ fsplit ! $ handle_out ! v z.0.4.0 (λ h ws fits. let a = v.alloc in
-    open_cases ! a v.address v.cache
+    open_cases ! a v.address v.opened
     (λ e em. let w : Val = both (ptr_val null_ptr) h in
     let good : Good (layout HandleRow) w = (and_tt (has_ty (layout Z) h) fits.0, (record { fits = lit< tt }, (fits.1, tt))) in
     let ws' : z.0.4.0 ≡ w ∷ [] = subst (λ (p : Ptr). z.0.4.0 ≡ both (ptr_val p) h ∷ []) e ws in
@@ -78,7 +78,7 @@ into_value_spec 𝓤 𝓛 𝓜 𝓡 wired =
     (λ _. sets_last ! (agg ! (and_then ! (lit ! tt) (no_more !))) refl (tt, (record { fits = lit< tt }, tt)) $
     exec ! 𝓣.C 𝓣.Λ Ev (after 4 fn.body) (at_ret Ev Post) $ sets ! (of_opd ! (get ! refl)) refl (tt, (record { fits = lit< tt }, tt)) $
     use0 𝓛 (‵ (Out.own_val nothing_there (live 0 vnil ∷ []))) (none_of 𝓛 Lr) $
-    use0 𝓛 (raw (fact 𝓤 ((v.address ≡ null_ptr) × (v.cache ≡ none)))) (fact_i 𝓤 ((v.address ≡ null_ptr) × (v.cache ≡ none)) (emp 𝓤) (e, em)) $ nothing ! $ nothing ! $ fjoin ! $
+    use0 𝓛 (raw (fact 𝓤 ((v.address ≡ null_ptr) × (v.opened ≡ none)))) (fact_i 𝓤 ((v.address ≡ null_ptr) × (v.opened ≡ none)) (emp 𝓤) (e, em)) $ nothing ! $ nothing ! $ fjoin ! $
     returns ! (look_at ! 0 refl) $ free_all ! refl $ keep ! (4 ∷ 0 ∷ 2 ∷ 1 ∷ []) $
     by ! (leaves 𝓛 ended hs c z (live 0 vnil) nothing_there (tt, tt) (tt, tt))) (λ wrong. absurd wrong)))
     (λ b o x e em t. let w : Val = both (vptr b o) h in let typed = heap_good R Z LZ ghosts b o h fits in
@@ -96,6 +96,6 @@ into_value_spec 𝓤 𝓛 𝓜 𝓡 wired =
     sets_last ! (agg ! (and_then ! (lit ! tt) (and_then ! (get ! refl) (no_more !)))) refl good $
     exec ! 𝓣.C 𝓣.Λ Ev (after 4 fn.body) (at_ret Ev Post) $ sets ! (of_opd ! (get ! refl)) refl good $ heap_in R Z LZ ghosts ! b o h a x $
     use1 𝓛 (‵ (Out.own_val (something d) (v₁ ∷ []))) (Some-of 𝓛 Lr d w) $
-    use0 𝓛 (raw (fact 𝓤 ((block_ptr b o ≡ v.address) × (v.cache ≡ Some x)))) (fact_i 𝓤 ((block_ptr b o ≡ v.address) × (v.cache ≡ Some x)) (emp 𝓤) (sym e, em)) $ nothing ! $ nothing ! $ fjoin ! $
+    use0 𝓛 (raw (fact 𝓤 ((block_ptr b o ≡ v.address) × (v.opened ≡ Some x)))) (fact_i 𝓤 ((block_ptr b o ≡ v.address) × (v.opened ≡ Some x)) (emp 𝓤) (sym e, em)) $ nothing ! $ nothing ! $ fjoin ! $
     returns ! (look_at ! 0 refl) $ free_all ! refl $ keep ! (3 ∷ 0 ∷ 2 ∷ 1 ∷ []) $
     by ! (leaves 𝓛 ended hs c z v₁ (something d) (tt, tt) (tt, tt)))))))

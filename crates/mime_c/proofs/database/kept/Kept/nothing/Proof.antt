@@ -60,4 +60,4 @@ nothing_spec 𝓤 𝓛 𝓜 𝓡 wired =
     use0 𝓛 (raw (fact 𝓤 ((null ≡ null) × (none ≡ none)))) (fact_i 𝓤 ((null ≡ null) × (none ≡ none)) (emp 𝓤) (refl, refl)) $ nothing ! $
     nothing ! $ fjoin ! $
     returns ! (look_at ! 0 refl) $ free_all ! refl $ keep ! (3 ∷ 0 ∷ 2 ∷ 1 ∷ []) $
-    by ! (leaves 𝓛 ended hs c z w (record { alloc = v; address = null_ptr; cache = none }) (tt, tt) (tt, tt))))
+    by ! (leaves 𝓛 ended hs c z w (record { alloc = v; address = null_ptr; opened = none }) (tt, tt) (tt, tt))))

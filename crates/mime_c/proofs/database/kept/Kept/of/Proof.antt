@@ -49,10 +49,10 @@ of_spec 𝓤 𝓛 𝓜 𝓡 wired =
     qed 𝓛 ((‵ ftrue ⊛ ‵ (owns (types_at ended.signature.params κs) z.0.3 z.0.4)) ∷ raw ((c κs z.0.3).requires z.1) ∷ []) ∵ split ! $
     move ! (1 ∷ []) $ fsplit ! $ heap_out R Z LZ ghosts ! v z.0.4.0 (λ b o h e ws fits.
     let a = v.alloc in let w : Val = both (vptr b o) h in let typed = heap_good R Z LZ ghosts b o h fits in
-    let k : KeptRow.Denot = record { alloc = a; address = block_ptr b o; cache = Some v.value } in let u : Val = both (vptr b o) (one h) in
+    let k : KeptRow.Denot = record { alloc = a; address = block_ptr b o; opened = Some v.value } in let u : Val = both (vptr b o) (one h) in
     let kept : Good (layout KeptRow) (one h) = (and_tt (has_ty (layout Z) h) fits.0, (fits.1, tt)) in
     let made : Good (layout Out) u = (and_tt (has_ty (layout KeptRow) (one h)) kept.0, (tt, (kept.1, tt))) in
-    let Says : Type 0 = (block_ptr b o ≡ v.address) × (block_ptr b o ≡ v.address) × (k.cache ≡ Some v.value) in
+    let Says : Type 0 = (block_ptr b o ≡ v.address) × (block_ptr b o ≡ v.address) × (k.opened ≡ Some v.value) in
     suffices ! (Run (w ∷ [])) (subst (λ (us : List Val). ent 𝓤 (Run (w ∷ [])) (Run us)) (sym (λ i. ws i ++ [])) (id⊢ 𝓤 (Run (w ∷ [])))) $
     enter ! 𝓣.C 𝓣.Λ fn (w ∷ []) Post $ alloc_all ! (λ l. pass_all ! refl (typed, tt) $
     sets ! (of_opd ! (get_in ! (fld ! refl (stop !)) (sub ! 0 refl (whole !)))) refl (tt, tt) $
