@@ -24,8 +24,9 @@ from collections.abc import Callable, Iterable, Sequence
 from ctypes import CDLL, POINTER, Structure, addressof, byref, create_string_buffer, string_at
 from ctypes import c_bool, c_char_p, c_size_t, c_uint16, c_uint32, c_uint64, c_void_p
 from enum import IntEnum
-from typing import Any, NamedTuple, Optional, Union
+from typing import Any, NamedTuple, Optional, TypeVar, Union
 
+_Told = TypeVar("_Told")
 Name = Union[str, bytes]
 Path = Union[str, bytes, "os.PathLike[str]", "os.PathLike[bytes]"]
 
@@ -110,9 +111,14 @@ class Cache:
 
     def __init__(self, data: bytes) -> None:
         """Raises a Fault where the bytes can't be opened as a cache."""
-        self._data, self._handle, self._turn = bytes(data), c_void_p(), threading.Lock()
-        _check(_library.mimelook_open(*_bytes(self._data), byref(self._handle)))
-        self._closing = weakref.finalize(self, _close, self._handle, self._data)
+        kept, handle = bytes(data), c_void_p()
+        _check(_library.mimelook_open(*_bytes(kept), byref(handle)))
+        self._hold(handle, kept)
+
+    def _hold(self, handle: c_void_p, data: bytes) -> None:
+        """Has a database until it is closed, and the bytes that it is open over, unless they are its own."""
+        self._handle, self._turn = handle, threading.Lock()
+        self._closing = weakref.finalize(self, _close, handle, data)
 
     def close(self) -> None:
         """Gives back what is kept; then each call raises a Fault."""
@@ -136,23 +142,18 @@ class Cache:
         """The cache of the text files of data directories such as /usr/share, most preferred first; what is missing is empty."""
         texts = [_texts_of(directory) for directory in directories]
         slices = (_Directory * len(texts))(*(_Directory(*(_Slice(*_bytes(text)) for text in each)) for each in texts))
-        room, length = 2 * sum(len(text) for each in texts for text in each), c_size_t()
-        while True:
-            cache = create_string_buffer(room)
-            report = _library.mimelook_merge(slices, len(slices), cache, room, byref(length))
-            if report.status != Status.SHORT_BUFFER:
-                break
-            room = length.value
+        cache, handle = cls.__new__(cls), c_void_p()
+        report = _library.mimelook_open_directories(slices, len(slices), byref(handle))
         if report.status:
             raise Fault(report.status, report.at, directories[report.directory] if report.status == Status.BAD_MAGIC else None)
-        return cls(cache.raw[: length.value])
+        cache._hold(handle, b"")
+        return cache
 
     def look_up(self, name: Name, content: Optional[bytes] = None, order: int = Order.GLOBS_FIRST) -> Answer:
         """The type of a name and a content, and how much of one is wanted; None is a content that is not available."""
         found = _Answer(_Text.empty())
         given = (None, 0) if content is None else _bytes(content)
-        self._ask(_library.mimelook_database_look_up, *_bytes(name), *given, order, byref(found))
-        return Answer(found.type.text(), found.wanted)
+        return self._ask("look_up", lambda: Answer(found.type.text(), found.wanted), *_bytes(name), *given, order, byref(found))
 
     def type_of(self, name: Name, content: Optional[bytes] = None, order: int = Order.GLOBS_FIRST) -> str:
         """The type of a name and a content; None is a content that is not available."""
@@ -170,49 +171,48 @@ class Cache:
 
     def hits(self, name: Name) -> list[Hit]:
         """The rules that match a name, the best first; aliases are not resolved."""
-        return [Hit(hit.type.text(), hit.weight, bool(hit.case_sensitive), bool(hit.kept)) for hit in self._array(_Hit, "hits", name)]
+        return self._array("hits", _Hit, lambda hit: Hit(hit.type.text(), hit.weight, bool(hit.case_sensitive), bool(hit.kept)), name)
 
     def sniff(self, content: bytes) -> Sniffed:
         """The type of a content alone."""
         found = _Sniffed(_Text.empty())
-        self._ask(_library.mimelook_database_sniff, *_bytes(content), byref(found))
-        return Sniffed(found.type.text(), found.priority, bool(found.holds))
+        return self._ask("sniff", lambda: Sniffed(found.type.text(), found.priority, bool(found.holds)), *_bytes(content), byref(found))
 
     def is_a(self, kind: Name, base: Name) -> bool:
         """Whether a type is another or a subclass of it, aliases resolved."""
         is_so = c_bool()
-        self._ask(_library.mimelook_database_is_a, *_bytes(kind), *_bytes(base), byref(is_so))
-        return is_so.value
+        return self._ask("is_a", lambda: is_so.value, *_bytes(kind), *_bytes(base), byref(is_so))
 
     def parents(self, kind: Name) -> list[str]:
         """The types that a type is a subclass of, as the cache lists them."""
-        return [text.text() for text in self._array(_Text, "parents", kind)]
+        return self._array("parents", _Text, _Text.text, kind)
 
     def unalias(self, kind: Name) -> str:
         """The type that a type is an alias of, else itself."""
         found, given = _Text.empty(), _bytes(kind)
-        self._ask(_library.mimelook_database_unalias, *given, byref(found))
-        return found.text()
+        return self._ask("unalias", found.text, *given, byref(found))
 
     def icons(self, kind: Name) -> Icons:
         """The names of a type's icons: those that the cache lists, else names that are made of the type."""
         icon, generic, lengths = create_string_buffer(_ICON_ROOM), create_string_buffer(_ICON_ROOM), _IconLengths()
-        self._ask(_library.mimelook_database_icons, *_bytes(kind), icon, _ICON_ROOM, generic, _ICON_ROOM, byref(lengths))
-        return Icons(_text(icon.raw[: lengths.icon]), _text(generic.raw[: lengths.generic]))
+        rooms = icon, _ICON_ROOM, generic, _ICON_ROOM
+        return self._ask("icons", lambda: Icons(_front_of(icon, lengths.icon), _front_of(generic, lengths.generic)), *_bytes(kind), *rooms,
+            byref(lengths))
 
-    def _array(self, item: Any, what: str, asked: Name) -> Any:
-        """What a function writes into an array, which is asked for twice where there is anything."""
+    def _array(self, what: str, item: Any, tell: Callable[[Any], _Told], asked: Name) -> list[_Told]:
+        """What a call writes into an array, which is asked for twice where there is anything."""
         count, found = c_size_t(), (item * 0)()
         while True:
-            self._ask(getattr(_library, f"mimelook_database_{what}"), *_bytes(asked), found, len(found), byref(count))
+            told = self._ask(what, lambda: [tell(it) for it in found[: count.value]], *_bytes(asked), found, len(found), byref(count))
             if count.value <= len(found):
-                return found[: count.value]
+                return told
             found = (item * count.value)(*[item.empty()] * count.value)
 
-    def _ask(self, function: Callable[..., _Report], *words: Any) -> None:
+    def _ask(self, what: str, tell: Callable[[], _Told], *words: Any) -> _Told:
+        """What a call by the handle gives; its texts are read before another thread can close the database that they lie in."""
         with self._turn:
-            report = function(self._handle, *words)
-        _check(report)
+            _check(getattr(_library, f"mimelook_database_{what}")(self._handle, *words))
+            return tell()
 
 
 def is_type_name(name: Name) -> bool:
@@ -312,8 +312,8 @@ def _loaded() -> CDLL:
         function.argtypes, function.restype = (c_void_p, *words), _Report
     library.mimelook_open.argtypes, library.mimelook_open.restype = (*_BYTES, POINTER(c_void_p)), _Report
     library.mimelook_close.argtypes, library.mimelook_close.restype = (c_void_p,), None
-    library.mimelook_merge.argtypes = (POINTER(_Directory), c_size_t, c_char_p, c_size_t, POINTER(c_size_t))
-    library.mimelook_merge.restype = _MergeReport
+    library.mimelook_open_directories.argtypes = (POINTER(_Directory), c_size_t, POINTER(c_void_p))
+    library.mimelook_open_directories.restype = _MergeReport
     library.mimelook_is_type_name.argtypes, library.mimelook_is_type_name.restype = _BYTES, c_bool
     library.mimelook_status_text.argtypes, library.mimelook_status_text.restype = (c_uint32,), c_char_p
     library.mimelook_version.argtypes, library.mimelook_version.restype = (), c_char_p
@@ -330,8 +330,12 @@ def _text(found: bytes) -> str:
     return found.decode("utf-8", "surrogateescape")
 
 
+def _front_of(buffer: Any, length: int) -> str:
+    return _text(buffer.raw[:length])
+
+
 def _close(handle: c_void_p, _data: bytes) -> None:
-    """Closes a database, whose bytes are kept until then."""
+    """Closes a database; bytes that it is open over are kept until then."""
     _library.mimelook_close(handle)
     handle.value = None
 

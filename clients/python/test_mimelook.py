@@ -6,8 +6,10 @@ import sys
 import tempfile
 import threading
 import unittest
+from ctypes import byref, c_size_t, create_string_buffer
 
 sys.dont_write_bytecode = True
+import mimelook
 from mimelook import Answer, Cache, Fault, Hit, Icons, Order, Sniffed, Status, is_type_name, version
 
 HERE = os.path.dirname(os.path.abspath(__file__))
@@ -28,6 +30,18 @@ BY_NAME = {
     "\udcff.pdf": "application/pdf",
     "": "application/octet-stream",
 }
+
+
+def cache_of_share():
+    """The bytes of the cache of examples/share, as the library merges it."""
+    texts = mimelook._texts_of(SHARE)
+    directory = mimelook._Directory(*(mimelook._Slice(text, len(text)) for text in texts))
+    cache, length = create_string_buffer(1 << 16), c_size_t()
+    merge = mimelook._library.mimelook_merge
+    merge.restype = mimelook._MergeReport
+    report = merge(byref(directory), c_size_t(1), cache, c_size_t(len(cache)), byref(length))
+    assert report.status == 0, report.status
+    return cache.raw[: length.value]
 
 
 class Answers(unittest.TestCase):
@@ -148,12 +162,12 @@ class Caches(unittest.TestCase):
         with tempfile.TemporaryDirectory() as folder:
             path = os.path.join(folder, "mime.cache")
             with open(path, "wb") as file:
-                file.write(Cache.merged([SHARE])._data)
+                file.write(cache_of_share())
             cache = Cache.open(path)
         self.assertEqual(cache.type_of("a.md"), "text/markdown")
 
     def test_bytes_are_kept(self):
-        data = bytearray(Cache.merged([SHARE])._data)
+        data = bytearray(cache_of_share())
         cache = Cache(data)
         data[:] = bytes(len(data))
         del data
@@ -161,11 +175,11 @@ class Caches(unittest.TestCase):
         self.assertEqual(cache.type_of("a.md"), "text/markdown")
 
     def test_closed(self):
-        data = Cache.merged([SHARE])._data
-        with Cache(data) as cache, Cache(data) as other:
+        data = cache_of_share()
+        with Cache(data) as cache, Cache(data) as other, Cache.merged([SHARE]) as merged:
             cache.close()
             self.assertEqual(other.type_of("a.md"), "text/markdown")
-        for closed in (cache, other):
+        for closed in (cache, other, merged):
             for call, *words in ((closed.type_of, "a.md"), (closed.sniff, b"hi"), (closed.hits, "x"), (closed.parents, "text/html")):
                 with self.assertRaises(Fault) as raised:
                     call(*words)
@@ -173,9 +187,35 @@ class Caches(unittest.TestCase):
             closed.close()
 
     def test_many_are_opened(self):
-        data = Cache.merged([SHARE])._data
+        data = cache_of_share()
         for _ in range(10_000):
             Cache(data).type_of("a.md")
+
+    def test_many_directories_are_opened(self):
+        for _ in range(1_000):
+            Cache.merged([SHARE]).type_of("a.md")
+
+    def test_closed_while_others_ask(self):
+        """Each call answers from what was open, or says that nothing is; none reads what was closed."""
+        for _ in range(50):
+            answers, cache = [], Cache.merged([SHARE])
+
+            def ask(cache=cache, answers=answers):
+                try:
+                    while True:
+                        answers.append([hit.type for hit in cache.hits("a.tar.gz")])
+                except Fault as fault:
+                    answers.append(fault.status)
+
+            threads = [threading.Thread(target=ask) for _ in range(4)]
+            for thread in threads:
+                thread.start()
+            cache.close()
+            for thread in threads:
+                thread.join()
+            rules = ["application/x-compressed-tar", "application/gzip"]
+            self.assertEqual([it for it in answers if it not in (rules, Status.NOT_OPEN)], [])
+            self.assertEqual(answers.count(Status.NOT_OPEN), 4)
 
     def test_questions_of_many(self):
         """The answers are the same, however many were asked before."""

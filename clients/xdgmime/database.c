@@ -1,4 +1,4 @@
-/* Which folders have the text files, when they are read, and the cache that is made of them. */
+/* Which folders have the text files, when they are read, and the database that is opened over them. */
 #define _POSIX_C_SOURCE 200809L
 #include "database.h"
 #include <fcntl.h>
@@ -39,9 +39,7 @@ struct folder {
 static struct folder *folders;
 static size_t folder_count;
 static bool are_folders_set;
-static uint8_t *cache;
-static size_t cache_length;
-static mimelook_database *handle;
+static mimelook_database *database;
 static bool is_read;
 static time_t last_look;
 
@@ -186,59 +184,29 @@ static void free_sources(struct folder *folder) {
     }
 }
 
-/* The texts of a folder, and how much room what is made of them will hardly be more than. */
-static mimelook_directory texts_of(const struct folder *folder, size_t *room) {
+static mimelook_directory texts_of(const struct folder *folder) {
     mimelook_text texts[KINDS];
     for (size_t kind = 0; kind < KINDS; kind++) {
         texts[kind] = (mimelook_text){folder->sources[kind].bytes, folder->sources[kind].length};
-        *room += 2 * texts[kind].length;
     }
     return (mimelook_directory){
         texts[GLOBS2], texts[MAGIC], texts[ALIASES], texts[SUBCLASSES], texts[ICONS], texts[GENERIC_ICONS],
     };
 }
 
-static void drop_cache(void) {
-    mimelook_close(handle);
-    handle = NULL;
-    free(cache);
-    cache = NULL;
-    cache_length = 0;
-}
-
-/* Merges the texts in a cache of so much room, which is made what is needed where it is too small. */
-static mimelook_merge_report merged(const mimelook_directory *directories, size_t *room) {
-    mimelook_merge_report report = {.status = MIMELOOK_OUT_OF_MEMORY};
-    free(cache);
-    cache = malloc(*room);
-    if (cache != NULL) {
-        report = mimelook_merge(directories, folder_count, cache, *room, &cache_length);
-    }
-    if (report.status == MIMELOOK_SHORT_BUFFER) {
-        *room = cache_length;
-    }
-    return report;
-}
-
-/* Makes the cache of what was read, and opens it; there is none where memory is refused or the data are too large. */
-static void make_cache(mimelook_directory *directories) {
-    size_t room = 4096;
+/* Opens what was read, without a magic that is refused; nothing is open where memory is refused or the data are too large. */
+static void open_database(mimelook_directory *directories) {
     for (size_t i = 0; i < folder_count; i++) {
-        directories[i] = texts_of(&folders[i], &room);
+        directories[i] = texts_of(&folders[i]);
     }
-    mimelook_merge_report report = merged(directories, &room);
-    while (report.status == MIMELOOK_SHORT_BUFFER || report.status == MIMELOOK_BAD_MAGIC) {
-        if (report.status == MIMELOOK_BAD_MAGIC) {
-            directories[report.directory].magic.length = 0;
-        }
-        report = merged(directories, &room);
-    }
-    if (report.status != MIMELOOK_ANSWERED || mimelook_open(cache, cache_length, &handle).status != MIMELOOK_ANSWERED) {
-        drop_cache();
+    mimelook_merge_report report = mimelook_open_directories(directories, folder_count, &database);
+    while (report.status == MIMELOOK_BAD_MAGIC) {
+        directories[report.directory].magic.length = 0;
+        report = mimelook_open_directories(directories, folder_count, &database);
     }
 }
 
-/* Reads all folders and makes the cache; there is none where memory is refused. */
+/* Reads all folders and opens them; nothing is open where memory is refused. */
 static void read_folders(void) {
     mimelook_directory *directories = calloc(folder_count + 1, sizeof *directories);
     bool is_held = directories != NULL;
@@ -246,7 +214,7 @@ static void read_folders(void) {
         is_held &= read_folder(&folders[i]);
     }
     if (is_held) {
-        make_cache(directories);
+        open_database(directories);
     }
     for (size_t i = 0; i < folder_count; i++) {
         free_sources(&folders[i]);
@@ -255,7 +223,8 @@ static void read_folders(void) {
 }
 
 void xdg_mime_drop_database(void) {
-    drop_cache();
+    mimelook_close(database);
+    database = NULL;
     is_read = false;
 }
 
@@ -268,12 +237,12 @@ static void read_all(void) {
     read_folders();
 }
 
-struct database xdg_mime_database(void) {
+mimelook_database *xdg_mime_database(void) {
     struct timespec now;
     clock_gettime(CLOCK_MONOTONIC, &now);
     if (is_read && now.tv_sec - last_look >= SECONDS_BETWEEN_LOOKS) {
         last_look = now.tv_sec;
-        if (cache == NULL || have_changed()) {
+        if (database == NULL || have_changed()) {
             xdg_mime_shutdown();
         }
     }
@@ -281,7 +250,7 @@ struct database xdg_mime_database(void) {
         last_look = now.tv_sec;
         read_all();
     }
-    return (struct database){handle, cache, cache_length};
+    return database;
 }
 
 void xdg_mime_set_dirs(const char *const *paths) {
@@ -294,11 +263,11 @@ void xdg_mime_set_dirs(const char *const *paths) {
 }
 
 void xdg_mime_dump(void) {
-    struct database data = xdg_mime_database();
+    bool is_open = xdg_mime_database() != NULL;
     for (size_t i = 0; i < folder_count; i++) {
         for (size_t kind = 0; kind < KINDS; kind++) {
             printf("%s/%s: %lld bytes\n", folders[i].path, NAMES[kind], (long long)folders[i].sources[kind].stamp.size);
         }
     }
-    printf("cache: %zu bytes\n", data.length);
+    printf("database: %s\n", is_open ? "open" : "none");
 }

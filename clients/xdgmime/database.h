@@ -1,4 +1,4 @@
-/* The text files of folders, merged in memory. */
+/* A database of the library, open over the text files of folders. */
 #ifndef MIMELOOK_DATABASE_H
 #define MIMELOOK_DATABASE_H
 
@@ -13,15 +13,9 @@
 #define xdg_mime_read_front XDG_ENTRY(read_front)
 #endif
 
-/* A cache that is open, and its bytes; none where memory is refused or the data are too large, which each call answers by a status. */
-struct database {
-    mimelook_database *handle;
-    const uint8_t *cache;
-    size_t length;
-};
-
-/* What the text files make, as they were when they were last looked at, which is five seconds ago at most. */
-struct database xdg_mime_database(void);
+/* What the text files say, as they were when they were last looked at, which is five seconds ago at most. NULL where memory is
+ * refused or the data are too large, which each call answers by a status. */
+mimelook_database *xdg_mime_database(void);
 
 /* Frees it, so that the next call reads anew. */
 void xdg_mime_drop_database(void);

@@ -34,44 +34,42 @@ static const uint8_t *bytes_of(const char *text) {
     return (const uint8_t *)text;
 }
 
-/* The text with a zero after it, as each text of a cache has; NULL where it lies elsewhere. */
-static const char *text_in(struct database data, mimelook_text text) {
-    uintptr_t at = (uintptr_t)text.at, cache = (uintptr_t)data.cache;
-    bool is_inside = at >= cache && at - cache < data.length && data.length - (at - cache) > text.length;
-    return is_inside && text.length != 0 && text.at[text.length] == 0 ? (const char *)text.at : NULL;
+/* A text of the database, which has a zero after it; NULL for none. */
+static const char *text_of(mimelook_text text) {
+    return text.length != 0 ? (const char *)text.at : NULL;
 }
 
-/* A type, of which those that no cache need have are the constants. */
-static const char *type_of(struct database data, mimelook_text type) {
+/* A type, of which those that lie in the library are the constants. */
+static const char *type_of(mimelook_text type) {
     const char *const constants[] = {xdg_mime_type_unknown, xdg_mime_type_empty, xdg_mime_type_textplain};
     for (size_t i = 0; i < sizeof constants / sizeof *constants; i++) {
         if (strlen(constants[i]) == type.length && memcmp(constants[i], type.at, type.length) == 0) {
             return constants[i];
         }
     }
-    const char *found = text_in(data, type);
-    return found != NULL ? found : xdg_mime_type_unknown;
+    return type.length != 0 ? text_of(type) : xdg_mime_type_unknown;
 }
 
 const char *xdg_mime_get_mime_type_for_data(const void *content, size_t length, int *priority) {
-    struct database data = xdg_mime_database();
+    mimelook_database *database = xdg_mime_database();
     mimelook_sniffed sniffed = {.type = MIMELOOK_NO_TEXT};
-    mimelook_database_sniff(data.handle, length != 0 ? content : NULL, length, &sniffed);
+    mimelook_database_sniff(database, length != 0 ? content : NULL, length, &sniffed);
     if (priority != NULL) {
         *priority = length != 0 ? (int)sniffed.priority : EMPTY_PRIORITY;
     }
-    return type_of(data, sniffed.type);
+    return type_of(sniffed.type);
 }
 
 /* A lookup of a name, with a content unless that is NULL. */
-static mimelook_answer looked_up(struct database data, const char *name, const uint8_t *content, size_t length) {
+static mimelook_answer looked_up(mimelook_database *database, const char *name, const uint8_t *content, size_t length) {
     mimelook_answer answer = {.type = MIMELOOK_NO_TEXT};
-    mimelook_database_look_up(data.handle, bytes_of(name), strlen(name), content, length, ORDER, &answer);
+    mimelook_database_look_up(database, bytes_of(name), strlen(name), content, length, ORDER, &answer);
     return answer;
 }
 
 /* The type of a file whose name leaves it open: so many bytes of its content are wanted. */
-static const char *type_by_content(struct database data, const char *path, const char *name, const struct stat *status, uint64_t wanted) {
+static const char *type_by_content(mimelook_database *database, const char *path, const char *name, const struct stat *status,
+    uint64_t wanted) {
     if (!S_ISREG(status->st_mode)) {
         return xdg_mime_type_unknown;
     }
@@ -79,7 +77,7 @@ static const char *type_by_content(struct database data, const char *path, const
     uint8_t *front = malloc(length + 1);
     const char *type = xdg_mime_type_unknown;
     if (front != NULL && xdg_mime_read_front(AT_FDCWD, path, front, &length)) {
-        type = type_of(data, looked_up(data, name, front, length).type);
+        type = type_of(looked_up(database, name, front, length).type);
     }
     free(front);
     return type;
@@ -89,33 +87,33 @@ const char *xdg_mime_get_mime_type_for_file(const char *path, struct stat *statu
     if (path == NULL) {
         return NULL;
     }
-    struct database data = xdg_mime_database();
+    mimelook_database *database = xdg_mime_database();
     const char *slash = strrchr(path, '/');
     const char *name = slash != NULL ? slash + 1 : path;
-    mimelook_answer answer = looked_up(data, name, NULL, 0);
+    mimelook_answer answer = looked_up(database, name, NULL, 0);
     struct stat found;
     if (answer.wanted == 0) {
-        return type_of(data, answer.type);
+        return type_of(answer.type);
     }
     if (status == NULL && stat(path, &found) != 0) {
         return xdg_mime_type_unknown;
     }
-    return type_by_content(data, path, name, status != NULL ? status : &found, answer.wanted);
+    return type_by_content(database, path, name, status != NULL ? status : &found, answer.wanted);
 }
 
 const char *xdg_mime_get_mime_type_from_file_name(const char *name) {
-    struct database data = xdg_mime_database();
-    return type_of(data, looked_up(data, name, NULL, 0).type);
+    mimelook_database *database = xdg_mime_database();
+    return type_of(looked_up(database, name, NULL, 0).type);
 }
 
 /* The globs that match a name, best first, in an array that the caller frees; none where memory is refused. */
-static mimelook_hit *hits_of(struct database data, const char *name, size_t *count) {
+static mimelook_hit *hits_of(mimelook_database *database, const char *name, size_t *count) {
     *count = 0;
-    mimelook_database_hits(data.handle, bytes_of(name), strlen(name), NULL, 0, count);
+    mimelook_database_hits(database, bytes_of(name), strlen(name), NULL, 0, count);
     mimelook_hit *hits = calloc(*count + 1, sizeof *hits);
     size_t room = hits != NULL ? *count : 0;
     *count = 0;
-    mimelook_database_hits(data.handle, bytes_of(name), strlen(name), hits, room, count);
+    mimelook_database_hits(database, bytes_of(name), strlen(name), hits, room, count);
     *count = *count < room ? *count : room;
     return hits;
 }
@@ -130,14 +128,14 @@ static bool is_listed(const char *const types[], int count, const char *type) {
 }
 
 int xdg_mime_get_mime_types_from_file_name(const char *name, const char *types[], int room) {
-    struct database data = xdg_mime_database();
+    mimelook_database *database = xdg_mime_database();
     size_t count;
-    mimelook_hit *hits = hits_of(data, name, &count);
+    mimelook_hit *hits = hits_of(database, name, &count);
     int listed = 0;
     for (size_t i = 0; i < count && listed < room; i++) {
         mimelook_text resolved = hits[i].type;
-        mimelook_database_unalias(data.handle, hits[i].type.at, hits[i].type.length, &resolved);
-        types[listed] = type_of(data, resolved);
+        mimelook_database_unalias(database, hits[i].type.at, hits[i].type.length, &resolved);
+        types[listed] = type_of(resolved);
         listed += !is_listed(types, listed, types[listed]);
     }
     free(hits);
@@ -148,10 +146,10 @@ int xdg_mime_is_valid_mime_type(const char *type) {
     return mimelook_is_type_name(bytes_of(type), strlen(type));
 }
 
-static const char *unaliased(struct database data, const char *type) {
+static const char *unaliased(mimelook_database *database, const char *type) {
     mimelook_text text = MIMELOOK_NO_TEXT;
-    mimelook_database_unalias(data.handle, bytes_of(type), strlen(type), &text);
-    const char *found = text_in(data, text);
+    mimelook_database_unalias(database, bytes_of(type), strlen(type), &text);
+    const char *found = text_of(text);
     return found != NULL ? found : type;
 }
 
@@ -160,8 +158,8 @@ const char *xdg_mime_unalias_mime_type(const char *type) {
 }
 
 int xdg_mime_mime_type_equal(const char *type, const char *other) {
-    struct database data = xdg_mime_database();
-    return strcmp(unaliased(data, type), unaliased(data, other)) == 0;
+    mimelook_database *database = xdg_mime_database();
+    return strcmp(unaliased(database, type), unaliased(database, other)) == 0;
 }
 
 int xdg_mime_media_type_equal(const char *type, const char *other) {
@@ -176,23 +174,23 @@ static bool is_media_type(const char *base) {
 }
 
 int xdg_mime_mime_type_subclass(const char *type, const char *base) {
-    struct database data = xdg_mime_database();
-    if (is_media_type(base) && xdg_mime_media_type_equal(unaliased(data, type), base)) {
+    mimelook_database *database = xdg_mime_database();
+    if (is_media_type(base) && xdg_mime_media_type_equal(unaliased(database, type), base)) {
         return 1;
     }
     /* of what is the name of no type it is known only that it has bytes */
     const char *asked = xdg_mime_is_valid_mime_type(type) ? type : xdg_mime_type_unknown;
     bool is = strcmp(type, base) == 0;
-    mimelook_database_is_a(data.handle, bytes_of(asked), strlen(asked), bytes_of(base), strlen(base), &is);
+    mimelook_database_is_a(database, bytes_of(asked), strlen(asked), bytes_of(base), strlen(base), &is);
     return is;
 }
 
 /* The parents of a type, and then NULL, in an array that the caller frees; NULL where memory is refused. */
 static const char **parents_of(const char *type) {
-    struct database data = xdg_mime_database();
-    const char *asked = unaliased(data, type);
+    mimelook_database *database = xdg_mime_database();
+    const char *asked = unaliased(database, type);
     size_t count = 0, kept = 0;
-    mimelook_database_parents(data.handle, bytes_of(asked), strlen(asked), NULL, 0, &count);
+    mimelook_database_parents(database, bytes_of(asked), strlen(asked), NULL, 0, &count);
     mimelook_text *texts = calloc(count + 1, sizeof *texts);
     const char **parents = calloc(count + 1, sizeof *parents);
     if (texts == NULL || parents == NULL) {
@@ -201,9 +199,9 @@ static const char **parents_of(const char *type) {
         return NULL;
     }
     size_t room = count;
-    mimelook_database_parents(data.handle, bytes_of(asked), strlen(asked), texts, room, &count);
+    mimelook_database_parents(database, bytes_of(asked), strlen(asked), texts, room, &count);
     for (size_t i = 0; i < room; i++) {
-        const char *parent = text_in(data, texts[i]);
+        const char *parent = text_of(texts[i]);
         parents[kept] = parent;
         kept += parent != NULL;
     }
@@ -223,11 +221,11 @@ const char **xdg_mime_get_mime_parents(const char *type) {
 
 /* The icons that are listed for a type. */
 static void listed_icons(const char *type, const char **icon, const char **generic) {
-    struct database data = xdg_mime_database();
+    mimelook_database *database = xdg_mime_database();
     mimelook_text listed = MIMELOOK_NO_TEXT, listed_generic = MIMELOOK_NO_TEXT;
-    mimelook_database_listed_icons(data.handle, bytes_of(type), strlen(type), &listed, &listed_generic);
-    *icon = text_in(data, listed);
-    *generic = text_in(data, listed_generic);
+    mimelook_database_listed_icons(database, bytes_of(type), strlen(type), &listed, &listed_generic);
+    *icon = text_of(listed);
+    *generic = text_of(listed_generic);
 }
 
 const char *xdg_mime_get_icon(const char *type) {
@@ -243,9 +241,9 @@ const char *xdg_mime_get_generic_icon(const char *type) {
 }
 
 int xdg_mime_get_max_buffer_extents(void) {
-    struct database data = xdg_mime_database();
+    mimelook_database *database = xdg_mime_database();
     uint64_t extent = 0;
-    mimelook_database_extent(data.handle, &extent);
+    mimelook_database_extent(database, &extent);
     return extent < INT_MAX ? (int)extent : INT_MAX;
 }
 
