@@ -27,7 +27,7 @@ IsOwed part cache told owed = IfSome owed (λ it. owed_for part cache told ≡ S
 
 -- What is to be prepared for a lookup, of which nothing is paid yet.
 pub record AreOwed (lookup : Lookup) (payments : Payments) : Type 0 where
-  -- An index is made once something was compared.
+  -- An index is made once something was compared, or a content was asked for bytes.
   pub index : IfSome payments.index (λ it. it ≡ record { paid = 0; cost = 1 })
   -- What names need costs so much.
   pub names : IsOwed Names (bytes_in lookup.by) (tells_cost lookup.by) payments.names

@@ -1,7 +1,7 @@
 //! What is prepared in a run that looks up many FILEs.
 //!
-//! Of a database there is an index, which is made once an answer has compared something: so never for one FILE alone, nor for what is
-//! refused.
+//! Of a database there is an index, which is made once an answer has compared something, or asked a content for bytes: so never for one
+//! FILE alone, nor for what is refused.
 //!
 //! Of a cache what names need is read back, and the magic list, into an index of each. That is done once the answers of the run have
 //! visited as many records as reading back may visit, and twice as many for magic: for names all answers, and for magic those whose

@@ -91,14 +91,14 @@ impl Payments {
     }
 
     /// Counts what a FILE visited: that pays for what names need, and for the magic list too, less the entries of the glob list, if its
-    /// content was asked for bytes. What was compared pays for an index.
+    /// content was asked for bytes. What was compared pays for an index, and so does a content that was asked for bytes and has none.
     #[inline]
     pub(crate) fn count(&mut self, outcome: &Outcome<'_>, asked: bool) {
         let Outcome::Typed(_, cost) = outcome else {
             return;
         };
         if let Some(index) = &mut self.index {
-            index.pay(cost.meter.bytes);
+            index.pay(cost.meter.bytes.max(u64::from(asked)));
         }
         if let Some(names) = &mut self.names {
             names.pay(cost.meter.nodes);
