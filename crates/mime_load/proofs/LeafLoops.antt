@@ -27,6 +27,16 @@ one_made made rules place rule is first old new last pushed own before =
     ∙ append_assoc first (map made (take place rules)) (made rule ∷ [])
     ∙ ap (λ xs. first ++ xs) (sym (ap (map made) (one_taken rules place rule is) ∙ map-append made (take place rules) (rule ∷ [])))
 
+-- all so far, and one rule more
+pub one_added : (rules : List GlobRule) (place : ℕ) (rule : GlobRule) → Some rule ≡ slice_get rules place
+    → (first old new : List GlobRule) (last : GlobRule) → new ≡ old ++ last ∷ [] → last ≡ rule → old ≡ first ++ take place rules
+    → new ≡ first ++ take (place + 1) rules
+one_added rules place rule is first old new last pushed own before =
+    pushed
+    ∙ ap₂ (λ front end. front ++ end ∷ []) before own
+    ∙ append_assoc first (take place rules) (rule ∷ [])
+    ∙ ap (λ xs. first ++ xs) (sym (one_taken rules place rule is))
+
 -- where there is no more, all were taken
 pub all_taken : (rules : List GlobRule) (place : ℕ) → None ≡ slice_get rules place → take place rules ≡ rules
 all_taken [] zero is = refl

@@ -69,12 +69,12 @@ pub fn kept_types<'a>(
     meter: &mut Meter,
 ) -> Result<KeptTypes<'a>, OutOfMemory>
     // They are the types of the kept rules.
-    ensures kept { IfOk result (λ types. held_types types ≡ map (λ rule. rule.kind) (kept_rules index.now name.now)) }
+    ensures kept { IfOk result (λ types. held_types types ≡ map (λ rule. rule.kind) (kept_rules index.now.given name.now)) }
     // Three nodes are counted for each byte of the name, six, and one for each rule near it, and no more.
-    ensures near { meter.new.nodes ≤ meter.old.nodes + near_nodes (length name.now) (near_rules name.now index.now) }
+    ensures near { meter.new.nodes ≤ meter.old.nodes + near_nodes (length name.now) (near_rules name.now index.now.given) }
     // For a name that a text matches, or a star and a text, no other rules count.
-    ensures texts { 0 < length (filter is_text_rule (hits index.now name.now)) →
-        meter.new.nodes ≤ meter.old.nodes + near_nodes (length name.now) (near_texts name.now index.now) }
+    ensures texts { 0 < length (filter is_text_rule (hits index.now.given name.now)) →
+        meter.new.nodes ≤ meter.old.nodes + near_nodes (length name.now) (near_texts name.now index.now.given) }
 {
     let mut texts = SmallVec::new(alloc);
     text_places(&mut texts, &index.table, name, meter)?;

@@ -32,7 +32,7 @@ pub fn write<W: Write>(job: &mut Job<'_>, out: &mut W) -> io::Result<()> {
 
 fn write_text<W: Write>(text: &[u8], out: &mut W) -> io::Result<()> {
     let mut length = [0; 4];
-    BigEndian::write_u32(&mut length, text.len() as u32);
+    BigEndian::write_u32(&mut length, text.len().min(u32::MAX as usize) as u32);
     out.write_all(&length)?;
     out.write_all(text)?;
     out.write_all(&[0])

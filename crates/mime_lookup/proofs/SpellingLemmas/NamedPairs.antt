@@ -1,19 +1,15 @@
--- The targets of pairs by their names: one pair more, names without a mark, and alias steps.
-use Rattle.std.proofs.Common.{◌≡◌, ℕ, ◌+◌, ◌<◌, Bool, true, false, cond, List, [], ◌∷◌, length, get_or, drop}
-use Rattle.std.proofs.Common.{Option, None, Some, option_map, refl, sym, ap, ap₂, ◌∙◌, bytes_eq, add-one}
-use Rattle.std.specs.HashMap.{HashMap, get_by}
-use Rattle.std.specs.List.{All}
+-- The targets of pairs by their names: one pair more, and alias steps.
+use Rattle.std.proofs.Common.{◌≡◌, ℕ, ◌+◌, ◌<◌, Bool, true, false, cond, List, ◌∷◌, length, get_or, drop, Option, None, Some, option_map}
+use Rattle.std.proofs.Common.{refl, sym, ap, ap₂, ◌∙◌, bytes_eq, add-one}
 use Rattle.std.specs.Map.{update}
 use Rattle.std.proofs.Math.Seq.{drop-cons}
-use Rattle.std.proofs.lemmas.List.Elements.{All-head, All-tail}
 use denote.Bor.{Bor}
 use Rattle.mime_load.specs.Lent.{plain_pairs}
 use Rattle.mime_load.specs.declared.pair.LentPair.{LentPair}
-use Rattle.mime_lookup.specs.Marks.{mark}
-use Rattle.mime_lookup.specs.Named.{AreNamedIn}
-use Rattle.mime_lookup.specs.PairsReadBack.{AreMarksOf, Unmarked}
+use Rattle.mime_lookup.specs.NameMap.{value_in}
+use Rattle.mime_lookup.specs.Named.{AreNamed}
 use Rattle.mime_lookup.specs.ReadBack.{AreTargets}
-use Rattle.mime_lookup.proofs.SpellingLemmas.PairMarks.{HasMark, other_name}
+use Rattle.mime_lookup.specs.declared.name_map.NameMap.{NameMap}
 use Rattle.mime_lookup.proofs.SpellingLemmas.Targets.{found_target}
 use Rattle.mime_view.specs.Pairs.{looked_up}
 use Rattle.mime_view.proofs.ListLemmas.Spelled.{found_or, resolved-looked_up}
@@ -46,22 +42,8 @@ found-step None kind = refl
 found-step (Some target) kind = refl
 
 -- the targets of aliases give alias steps
-pub named-targets : {S : Type 0} (pairs : List (List ℕ × List ℕ)) (targets : HashMap (Bor (List ℕ)) (Bor (List ℕ)) S)
-    → AreNamedIn pairs targets → AreTargets pairs targets
+pub named-targets : (pairs : List (List ℕ × List ℕ)) (targets : NameMap (Bor (List ℕ)))
+    → AreNamed pairs targets → AreTargets pairs targets
 named-targets pairs targets are kind =
     resolved-looked_up pairs kind ∙ ap (λ found. found_or found kind) (are kind)
-    ∙ found-step (get_by (λ key. bytes_eq kind key.now) targets) kind
-
--- a name without its mark is that of no pair
-looked_up-unmarked : (marks : List Bool) (name : List ℕ) → get_or marks (mark name) false ≡ false → (pairs : List LentPair)
-    → All (HasMark marks) pairs → looked_up (plain_pairs pairs) name ≡ None
-looked_up-unmarked marks name none [] have = refl
-looked_up-unmarked marks name none (pair ∷ pairs) have =
-    let other = other_name marks name none pair (All-head (HasMark marks) pair pairs have) in
-    rw other (looked_up-unmarked marks name none pairs (All-tail (HasMark marks) pair pairs have))
-
--- so it has no target
-pub name-unmarked : (pairs : List LentPair) (marks : List Bool) → AreMarksOf pairs marks
-    → Unmarked (λ name. looked_up (plain_pairs pairs) name ≡ None) marks
-name-unmarked pairs marks have =
-    record { many = have.many; are = λ name none. looked_up-unmarked marks name none pairs have.each }
+    ∙ found-step (value_in targets kind) kind

@@ -11,7 +11,7 @@ use Rattle.mime_load.specs.IconLists.{AreIconLists}
 use Rattle.mime_load.specs.Lent.{plain_pairs}
 use Rattle.mime_load.specs.declared.icon_lists.IconLists.{IconLists}
 use Rattle.mime_lookup.specs.Icons.{HasIconLists, PlainIcons, generic_of_media, icons_by, icons_of, name_or, with_hyphens}
-use Rattle.mime_lookup.specs.IconsReadBack.{AreIcons, AreIconsOf}
+use Rattle.mime_lookup.specs.IconsReadBack.{AreIcons, AreIconsOf, HasNameMaps}
 use Rattle.mime_lookup.specs.Spelling.{SpellsIcons}
 use Rattle.mime_lookup.specs.declared.icon_index.IconIndex.{IconIndex}
 use Rattle.mime_lookup.proofs.SpellingLemmas.Aliases.{resolved_once}
@@ -35,9 +35,10 @@ listed_icons lists = record {
 
 -- an index of lists that stand in a cache is that of what it spells
 pub icons_of_lists : (c : List ℕ) (lists : IconLists) (index : IconIndex) → AreIconLists c lists
+    → HasNameMaps index
     → AreIcons (plain_pairs lists.aliases.items) (plain_pairs lists.icons.items) (plain_pairs lists.generic_icons.items) index
     → AreIconsOf c index
-icons_of_lists c lists index stand are = record {
+icons_of_lists c lists index stand found are = record {
   database = listed_icons lists;
   spelled = record {
     offsets = stand.offsets;
@@ -46,6 +47,7 @@ icons_of_lists c lists index stand are = record {
     icons = stand.icons;
     generic_icons = stand.generic_icons;
   };
+  found = found;
   are = are;
 }
 

@@ -94,35 +94,41 @@ fn kind_in(found: Result<Answer<'_>, Stopped>) -> &[u8] {
     }
 }
 
-/// A content with the value of the row at this place has its type by both, where the line may begin there.
-fn is_found(
-    rt: &impl Abort,
-    alloc: Global,
-    of: (&Database, &IndexedDatabase<'_>),
-    row: &Row,
-    place: usize,
-    after: &[u8],
-) -> Result<(), Fail> {
-    let (database, index) = of;
+/// A content with the value of the row at this place.
+fn content_of(alloc: Global, row: &Row, place: usize, after: &[u8]) -> Result<Vec<u8>, Fail> {
     let mut bytes = Vec::new(alloc);
     for _ in 0..place {
         bytes.push(b'x')?;
     }
     bytes.extend_from_slice(row.value)?;
     bytes.extend_from_slice(after)?;
-    let kind: &[u8] = if row.start <= place && place - row.start < row.range {
+    Ok(bytes)
+}
+
+/// Its type: the row's, where the line may begin there.
+fn kind_at(row: &Row, place: usize) -> &'static [u8] {
+    if row.start <= place && place - row.start < row.range {
         b"t/it"
     } else {
         b"text/plain"
-    };
-    let content: &[u8] = &bytes;
+    }
+}
+
+/// A content has a type by the lists and by the index.
+fn has_kind(
+    rt: &impl Abort,
+    alloc: Global,
+    database: &Database,
+    index: &IndexedDatabase<'_>,
+    content: &[u8],
+    kind: &[u8],
+) {
     let (host, order) = (Host::Little, Order::ContentOnly);
     let (mut of_lists, mut of_index) = (Some(content), Some(content));
     let plain = look_up_plain(alloc, database, b"q", &mut of_lists, host, order);
     alike(rt, "by the lists", kind_in(plain), kind);
     let indexed = look_up_indexed(alloc, index, b"q", &mut of_index, host, order);
     alike(rt, "by the index", kind_in(indexed), kind);
-    Ok(())
 }
 
 #[test]
@@ -135,10 +141,18 @@ fn values_near_the_end_of_the_front(rt: HostRuntime) -> Result<(), Fail> {
         };
         let database = merged(alloc, &[texts])?;
         let index = IndexedDatabase::new(alloc, &database)?;
-        let of = (&database, &index);
         for &place in &PLACES {
-            is_found(&rt, alloc, of, row, place, b"")?;
-            is_found(&rt, alloc, of, row, place, b"xx")?;
+            let last = content_of(alloc, row, place, b"")?;
+            has_kind(&rt, alloc, &database, &index, &last, kind_at(row, place));
+            let before_others = content_of(alloc, row, place, b"xx")?;
+            has_kind(
+                &rt,
+                alloc,
+                &database,
+                &index,
+                &before_others,
+                kind_at(row, place),
+            );
         }
     }
     Ok(())

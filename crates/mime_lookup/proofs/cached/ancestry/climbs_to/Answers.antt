@@ -12,9 +12,9 @@ returns-in-Found-clause-answer c = λ b spells. record {
 pub returns-in-Open-clause-answer : goal.returns-in-Open-clause-answer
 returns-in-Open-clause-answer c = λ b spells.
     let climbed = rw c.in-Open.is at (c.climb.ensures.climbed (pairs_of b) (b, rw c.in-Some.ensures spells, refl)) in
-    let searched = c.leads_to-in-Open.ensures.answer b spells in
+    let searched = c.leads_to.ensures.answer b spells in
     record {
       answer = λ none.
-          goes_on c.leads_to-in-Open.result (pairs_of b) c.args.kind.now c.in-Open.here.now c.args.base.now climbed (searched.answer none);
+          goes_on c.leads_to.result (pairs_of b) c.args.kind.now c.in-Open.here.now c.args.base.now climbed (searched.answer none);
       marked = searched.marked;
     }

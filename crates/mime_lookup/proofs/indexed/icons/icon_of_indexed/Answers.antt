@@ -8,4 +8,4 @@ pub returns-clause-answer : goal.returns-clause-answer
 returns-clause-answer c =
     let are : AreIconsIn c.args.icons.now c.icons.inside.index =
     subst (λ (database : Database). AreIconsIn database c.icons.inside.index) c.icons.view_is c.icons.invariant in
-    rw c.bytes.ensures.text at (c.in_ok-icon.ensures (plain_database c.args.icons.now) are)
+    rw c.bytes.ensures.text at (c.in_ok-icon.ensures (plain_database c.args.icons.now) are.are)

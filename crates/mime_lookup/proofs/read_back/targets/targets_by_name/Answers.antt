@@ -1,23 +1,22 @@
-use Rattle.std.proofs.Common.{◌≡◌, ℕ, ◌+◌, ◌-◌, ◌<◌, List, length, drop, Option, ap, sym, subst, ◌∙◌, arith, bytes_eq}
-use Rattle.std.specs.HashMap.{get_by}
-use Rattle.std.specs.Map.{lookup}
+use Rattle.std.proofs.Common.{◌≡◌, ℕ, ◌+◌, ◌-◌, ◌<◌, List, length, drop, Option, ap, sym, subst, ◌∙◌, arith}
 use Rattle.std.proofs.lemmas.List.{drop_all}
-use Rattle.std.proofs.lemmas.Map.Text.{hash_map_updates_str}
 use denote.Bor.{Bor}
 use Rattle.mime_load.specs.Lent.{plain_pairs}
 use Rattle.mime_load.specs.declared.pair.LentPair.{LentPair}
+use Rattle.mime_lookup.specs.NameMap.{value_in}
 use Rattle.mime_lookup.specs.Named.{named_in}
 use Rattle.mime_lookup.proofs.SpellingLemmas.NamedPairs.{found_name, looked_up-more}
 use Rattle.mime_view.specs.Pairs.{looked_up}
-use Rattle.mime_lookup.proofs.named.targets_by_name.Goals as goal
+use Rattle.mime_lookup.proofs.read_back.targets.targets_by_name.Goals as goal
 
 pub loop-place-init : goal.loop-place-init
 loop-place-init c = record {
   within = omega arith;
+  valid = c.in_ok-targets.ensures.valid;
   so_far = λ name.
       ap (λ (pairs : List LentPair). looked_up (plain_pairs pairs) name)
       (drop_all (length c.args.pairs.now) c.args.pairs.now (omega arith))
-      ∙ sym (ap found_name (ap (lookup (λ key. bytes_eq name key.now)) c.new-targets.ensures.empty));
+      ∙ sym (ap found_name (c.in_ok-targets.ensures.empty name));
 }
 
 pub loop-place-preserved : goal.loop-place-preserved
@@ -29,11 +28,12 @@ loop-place-preserved c =
     let here : c.loop-place.place ≡ low + 1 = omega (arith, c.loop-place-test.true) in
     record {
       within = omega (arith, within);
+      valid = c.in_ok-put_value.ensures.valid;
       so_far = λ name.
-          looked_up-more pairs low pair name (λ (other : List ℕ). get_by (λ key. bytes_eq other key.now) c.loop-place.targets) within
+          looked_up-more pairs low pair name (value_in c.loop-place.targets) within
           c.pair_at-pair.ensures
           (subst (λ (n : ℕ). looked_up (plain_pairs (drop n pairs)) name ≡ named_in c.loop-place.targets name) here
           (c.loop-place.invariant.so_far name))
           ∙ ap (λ (found : Option (Bor (List ℕ))). found_name found)
-          (sym (hash_map_updates_str pair.name.now c.loop-place.targets c.insert.new.self _ c.in_ok-insert.ensures.updates name));
+          (sym (c.in_ok-put_value.ensures.updates name));
     }
