@@ -524,48 +524,6 @@
 29:
 	.size	"mime_base::matching::attempt::attempt", 29b-"mime_base::matching::attempt::attempt"
 
-	.text
-	.p2align	4
-	.type	"mime_base::matching::elements::begins_otherwise",@function
-"mime_base::matching::elements::begins_otherwise":
-	xorl	%eax, %eax
-	testq	%rsi, %rsi
-	je	1f
-	testq	%r8, %r8
-	je	1f
-	movzbl	(%rdi), %eax
-	leal	-42(%rax), %esi
-	cmpb	$51, %sil
-	jae	2f
-	movzbl	%sil, %esi
-	movabsq	$1688849862361089, %rdi
-	btq	%rsi, %rdi
-	jae	2f
-	xorl	%eax, %eax
-1:
-	retq
-2:
-	leal	-65(%rax), %esi
-	leal	32(%rax), %edi
-	cmpb	$26, %sil
-	movzbl	%dil, %esi
-	movzbl	%al, %eax
-	cmovael	%eax, %esi
-	movzbl	(%rcx), %ecx
-	leal	-65(%rcx), %edi
-	leal	32(%rcx), %r8d
-	cmpb	$26, %dil
-	movzbl	%r8b, %edi
-	cmovael	%ecx, %edi
-	testb	%dl, %dl
-	cmovnel	%eax, %esi
-	cmovnel	%ecx, %edi
-	cmpb	%dil, %sil
-	setne	%al
-	retq
-3:
-	.size	"mime_base::matching::elements::begins_otherwise", 3b-"mime_base::matching::elements::begins_otherwise"
-
 	.section	.rodata.cst16,"aM",@progbits,16
 	.p2align	4, 0x0
 1:

@@ -3,242 +3,256 @@
 	.section	.rodata.cst16,"aM",@progbits,16
 	.p2align	4, 0x0
 1:
-	.quad	1,1
+	.byte	3,2,1,0,7,6,5,4,11,10,9,8,15,14,13,12
 	.text
 	.p2align	4
-	.type	"mime_c::hits::hits_of",@function
-"mime_c::hits::hits_of":
+	.type	"mime_c::database::open::open",@function
+"mime_c::database::open::open":
 	pushq	%rbp
 	pushq	%r15
 	pushq	%r14
 	pushq	%r13
 	pushq	%r12
 	pushq	%rbx
-	subq	$312, %rsp
-	movq	%r8, %rbx
-	movq	%rsi, %r15
-	movq	%rdi, %r12
-	movq	8(%rsi), %rax
-	movq	%rax, %rsi
-	shrq	$2, %rsi
-	movq	$2, 264(%rsp)
-	movq	%r15, 240(%rsp)
-	movq	%rdx, 248(%rsp)
-	movq	%rcx, 256(%rsp)
-	movl	36(%r15), %ecx
-	movq	28(%r15), %rdx
-	movq	%rdx, 192(%rsp)
-	movl	%ecx, 200(%rsp)
-	xorps	%xmm0, %xmm0
-	movups	%xmm0, 112(%rsp)
-	movaps	%xmm0, 32(%rsp)
-	movq	$0, 48(%rsp)
-	movups	%xmm0, 128(%rsp)
-	movups	%xmm0, 144(%rsp)
-	movq	$1, 104(%rsp)
-	movups	(%r8), %xmm0
-	movups	%xmm0, 160(%rsp)
-	movq	%rsi, 176(%rsp)
-	movq	%rax, 184(%rsp)
-	leaq	32(%rsp), %rdi
-	leaq	240(%rsp), %rsi
-	leaq	192(%rsp), %rdx
-	leaq	104(%rsp), %rcx
-	callq	"mime_view::name::gather_hits"
-	movq	160(%rsp), %rax
-	movq	168(%rsp), %r11
-	cmpb	$0, 32(%rsp)
-	je	2f
-	movq	48(%rsp), %r8
-	movd	42(%rsp), %xmm0
-	movzbl	40(%rsp), %edx
-	movq	120(%rsp), %rdi
-	cmpb	$0, 104(%rsp)
-	je	4f
-	cmpb	$1, 112(%rsp)
-	jne	6f
-	cmpq	$0, 136(%rsp)
-	jne	5f
-	jmp	6f
+	subq	$232, %rsp
+	movl	$0, 75(%rsp)
+	movl	$0, 72(%rsp)
+	movl	$0, 64(%rsp)
+	movl	$0, 67(%rsp)
+	movl	$0, 56(%rsp)
+	movl	$0, 59(%rsp)
+	movl	$0, 48(%rsp)
+	movl	$0, 51(%rsp)
+	xorl	%r11d, %r11d
+	cmpq	$40, %rdx
+	jae	2f
+	xorl	%r13d, %r13d
+	jmp	4f
 2:
-	movq	%r11, (%rsp)
-	movq	%rax, 8(%rsp)
-	movq	%rbx, 16(%rsp)
-	leaq	120(%rsp), %rbx
-	movzbl	112(%rsp), %eax
-	movups	(%rbx), %xmm0
-	movups	16(%rbx), %xmm1
-	movaps	%xmm0, 272(%rsp)
-	movaps	%xmm1, 288(%rsp)
-	movq	32(%rbx), %rcx
-	movq	%rcx, 304(%rsp)
-	cmpb	$0, 104(%rsp)
-	je	14f
-	xorps	%xmm0, %xmm0
-	movaps	%xmm0, 192(%rsp)
-	movq	$0, 208(%rsp)
-	movdqa	272(%rsp), %xmm0
-	movdqa	288(%rsp), %xmm1
-	movdqu	%xmm0, 112(%rsp)
-	movdqu	%xmm1, 128(%rsp)
-	movq	304(%rsp), %rcx
-	movq	%rcx, 144(%rsp)
-	movq	%rax, 104(%rsp)
-	leaq	192(%rsp), %rdi
-	leaq	104(%rsp), %rsi
-	callq	"mime_view::hits::sort_by_rank"
-	cmpb	$0, 192(%rsp)
-	je	7f
-	movq	208(%rsp), %r8
-	movd	202(%rsp), %xmm0
-	movzbl	200(%rsp), %edx
-	xorl	%r13d, %r13d
-	cmpb	$1, 104(%rsp)
-	movl	$1, %ebp
-	movl	$0, %r15d
-	jne	8f
-	cmpq	$0, 128(%rsp)
-	movq	16(%rsp), %rbx
-	je	3f
-	movq	112(%rsp), %rdi
+	movq	%rcx, %r10
+	movq	%rsi, %rbp
+	movq	(%r9), %rax
+	incq	%rax
+	movq	$-1, %rcx
+	cmovneq	%rax, %rcx
+	movq	%rcx, (%r9)
+	movl	(%rsi), %ecx
+	cmpl	$33554688, %ecx
+	bswapl	%ecx
+	jne	3f
 	movq	%rdx, %r14
-	movq	%r8, %r15
-	movdqa	%xmm0, 64(%rsp)
-	callq	rattle_dealloc@PLT
-	movdqa	64(%rsp), %xmm0
-	movq	%r15, %r8
-	movq	%r14, %rdx
-	xorl	%r15d, %r15d
-	xorl	%r13d, %r13d
-3:
-	xorl	%r14d, %r14d
-	jmp	9f
-4:
-	cmpb	$1, %dil
-	jne	6f
-	cmpq	$0, 144(%rsp)
-	je	6f
-	movq	128(%rsp), %rdi
-5:
-	movq	%rax, %r14
-	movq	%r11, %r15
-	movq	%rdx, %r13
-	movq	%r8, %rbp
-	movdqa	%xmm0, 64(%rsp)
-	callq	rattle_dealloc@PLT
-	movdqa	64(%rsp), %xmm0
-	movq	%rbp, %r8
-	movq	%r13, %rdx
-	movq	%r15, %r11
-	movq	%r14, %rax
-6:
-	movl	$1, %ebp
-	xorl	%r15d, %r15d
-	xorl	%r13d, %r13d
-	xorl	%r14d, %r14d
-	jmp	15f
-7:
-	leaq	112(%rsp), %r13
-	movzbl	104(%rsp), %eax
-	testb	%al, %al
-	cmovneq	112(%rsp), %r13
-	leaq	144(%rsp), %rcx
-	cmoveq	%rcx, %rbx
-	movq	(%rbx), %rsi
-	testq	%rsi, %rsi
-	je	10f
-	movl	(%r13), %eax
-	cmpq	$4, %rsi
+	movl	$2, %r13d
+	cmpq	$268435456, %rdx
+	ja	4f
+	movdqu	20(%rbp), %xmm1
+	movdqa	1b(%rip), %xmm0
+	pshufb	%xmm0, %xmm1
+	movl	36(%rbp), %r9d
+	movdqu	4(%rbp), %xmm2
+	movabsq	$-281474976710656, %r15
+	movd	%xmm1, %edx
+	leaq	4(%rdx), %rax
+	cmpq	%rax, %r14
 	jae	12f
-	xorl	%r14d, %r14d
-	xorl	%ecx, %ecx
-	movq	16(%rsp), %rbx
-	jmp	16f
-8:
-	xorl	%r14d, %r14d
-	movq	16(%rsp), %rbx
-9:
-	movq	8(%rsp), %rax
-	movq	(%rsp), %r11
-	jmp	15f
-10:
-	leaq	24(%rsp), %rdx
-	movq	%rdx, %rcx
-	shrq	$32, %rcx
-	movq	%rdx, %r15
-	movd	%edx, %xmm0
-	psrld	$16, %xmm0
-	pinsrw	$1, %ecx, %xmm0
-	shrq	$48, %r15
-	xorl	%r14d, %r14d
-	xorl	%r9d, %r9d
-	xorl	%r13d, %r13d
-	movq	(%rsp), %r11
-	xorl	%ebp, %ebp
-	cmpb	$1, %al
-	movq	16(%rsp), %rbx
-	jne	35f
-11:
-	cmpq	$0, 128(%rsp)
-	je	35f
-	movq	112(%rsp), %rdi
-	movq	%r11, (%rsp)
-	movq	%rdx, %rbp
-	movdqa	%xmm0, 64(%rsp)
-	movq	%r9, 96(%rsp)
-	callq	rattle_dealloc@PLT
-	movdqa	64(%rsp), %xmm0
-	movq	%rbp, %rdx
-	movq	(%rsp), %r11
-	xorl	%ebp, %ebp
-	movq	96(%rsp), %r8
-	movq	8(%rsp), %rax
-	jmp	15f
-12:
-	movq	%rsi, %rcx
-	andq	$-4, %rcx
-	movd	%eax, %xmm0
-	pshufd	$0, %xmm0, %xmm1
-	pxor	%xmm0, %xmm0
-	xorl	%edx, %edx
+	xorl	%esi, %esi
+	jmp	13f
+3:
+	movl	%ecx, %eax
+	andl	$-65536, %eax
+	movzwl	%cx, %ecx
+	shlq	$32, %rcx
+	leaq	(%rcx,%rax), %r13
+	incq	%r13
+4:
+	movzbl	%r13b, %eax
+	movl	%eax, 12(%rsp)
+	movl	$0, 43(%rsp)
+	movl	$0, 40(%rsp)
+	movl	$0, 32(%rsp)
+	movl	$0, 35(%rsp)
+	movl	$0, 24(%rsp)
+	movl	$0, 27(%rsp)
+	movl	$0, 16(%rsp)
+	movl	$0, 19(%rsp)
 	pxor	%xmm2, %xmm2
-	movq	16(%rsp), %rbx
-	.p2align	4
-13:
-	movd	(%r13,%rdx,8), %xmm3
-	pinsrd	$1, 8(%r13,%rdx,8), %xmm3
-	movd	16(%r13,%rdx,8), %xmm4
-	pinsrd	$1, 24(%r13,%rdx,8), %xmm4
-	pcmpeqd	%xmm1, %xmm3
-	pmovzxdq	%xmm3, %xmm3
-	movdqa	1b(%rip), %xmm5
-	pand	%xmm5, %xmm3
-	paddq	%xmm3, %xmm2
-	pcmpeqd	%xmm1, %xmm4
-	pmovzxdq	%xmm4, %xmm3
-	pand	%xmm5, %xmm3
-	paddq	%xmm3, %xmm0
-	addq	$4, %rdx
-	cmpq	%rdx, %rcx
-	jne	13b
-	paddq	%xmm2, %xmm0
-	pshufd	$238, %xmm0, %xmm1
-	paddq	%xmm0, %xmm1
-	movq	%xmm1, %r14
-	jmp	17f
-14:
-	ud2
-15:
-	movq	%rax, (%rbx)
-	movq	%r11, 8(%rbx)
-	movq	%rbp, (%r12)
-	movw	%dx, 8(%r12)
-	movd	%xmm0, 10(%r12)
-	movw	%r15w, 14(%r12)
-	movq	%r8, 16(%r12)
-	movq	%r13, 24(%r12)
-	movq	%r14, 32(%r12)
-	addq	$312, %rsp
+	pxor	%xmm1, %xmm1
+	xorl	%eax, %eax
+	xorl	%r15d, %r15d
+	xorl	%r14d, %r14d
+	xorl	%ebp, %ebp
+	xorl	%r9d, %r9d
+	movq	$0, 120(%rsp)
+	xorl	%ebx, %ebx
+	xorl	%r12d, %r12d
+	xorl	%ecx, %ecx
+	xorl	%edx, %edx
+	xorl	%esi, %esi
+	xorl	%r10d, %r10d
+	xorl	%r8d, %r8d
+5:
+	movl	$0, 104(%rsp)
+	movl	$0, 107(%rsp)
+	movl	$0, 96(%rsp)
+	movl	$0, 99(%rsp)
+	movl	$0, 88(%rsp)
+	movl	$0, 91(%rsp)
+	movl	$0, 80(%rsp)
+	movl	$0, 83(%rsp)
+	testb	%al, %al
+	je	6f
+	movq	%rdx, 144(%rsp)
+	movq	%rcx, 112(%rsp)
+	movl	40(%rsp), %ecx
+	movl	43(%rsp), %edx
+	movl	%edx, 107(%rsp)
+	movl	%ecx, 104(%rsp)
+	movl	32(%rsp), %ecx
+	movl	35(%rsp), %edx
+	movl	%ecx, 96(%rsp)
+	movl	%edx, 99(%rsp)
+	movl	24(%rsp), %ecx
+	movl	27(%rsp), %edx
+	movl	%ecx, 88(%rsp)
+	movl	%edx, 91(%rsp)
+	movl	16(%rsp), %ecx
+	movl	19(%rsp), %edx
+	movl	%ecx, 80(%rsp)
+	movl	%edx, 83(%rsp)
+	movq	%r14, 136(%rsp)
+	jmp	7f
+6:
+	movl	12(%rsp), %ecx
+	movzbl	%cl, %ecx
+	movl	%ecx, 12(%rsp)
+	pxor	%xmm2, %xmm2
+	pxor	%xmm1, %xmm1
+	xorl	%ebp, %ebp
+	movq	$0, 136(%rsp)
+	xorl	%r11d, %r11d
+	xorl	%r9d, %r9d
+	movq	$0, 120(%rsp)
+	xorl	%ebx, %ebx
+	xorl	%r12d, %r12d
+	movq	$0, 112(%rsp)
+	movq	$0, 144(%rsp)
+	xorl	%esi, %esi
+	xorl	%r10d, %r10d
+	xorl	%r8d, %r8d
+	xorl	%r15d, %r15d
+7:
+	movl	104(%rsp), %ecx
+	movl	107(%rsp), %edx
+	movl	%edx, 75(%rsp)
+	movl	%ecx, 72(%rsp)
+	movl	96(%rsp), %ecx
+	movl	99(%rsp), %edx
+	movl	%ecx, 64(%rsp)
+	movl	%edx, 67(%rsp)
+	movl	88(%rsp), %ecx
+	movl	91(%rsp), %edx
+	movl	%ecx, 56(%rsp)
+	movl	%edx, 59(%rsp)
+	movl	80(%rsp), %ecx
+	movl	83(%rsp), %edx
+	movl	%ecx, 48(%rsp)
+	movl	%edx, 51(%rsp)
+	testb	%al, %al
+	je	8f
+	movq	%r12, 152(%rsp)
+	movq	%rbx, 160(%rsp)
+	movl	%r9d, %ebx
+	movq	%r11, %r12
+	movq	%rsi, 168(%rsp)
+	movdqa	%xmm2, 192(%rsp)
+	movdqa	%xmm1, 208(%rsp)
+	movq	%r8, 176(%rsp)
+	movq	%r10, 184(%rsp)
+	movq	%rdi, 128(%rsp)
+	movl	$224, %edi
+	movl	$8, %esi
+	callq	rattle_alloc@PLT
+	testb	$1, %al
+	je	9f
+	movabsq	$281474976645120, %rax
+	andq	%rax, %r13
+	orq	%r13, %r15
+	movzwl	12(%rsp), %eax
+	orq	%r15, %rax
+	movq	%rax, (%rdx)
+	movq	%r14, 8(%rdx)
+	movq	%rbp, 16(%rdx)
+	movq	136(%rsp), %rax
+	movq	%rax, 24(%rdx)
+	movl	%r12d, 32(%rdx)
+	movaps	192(%rsp), %xmm0
+	movups	%xmm0, 36(%rdx)
+	movdqa	208(%rsp), %xmm0
+	movdqu	%xmm0, 52(%rdx)
+	movl	%ebx, 68(%rdx)
+	movb	$0, 72(%rdx)
+	movl	72(%rsp), %eax
+	movl	75(%rsp), %ecx
+	movl	%eax, 73(%rdx)
+	movl	%ecx, 76(%rdx)
+	movq	$0, 80(%rdx)
+	movb	$0, 88(%rdx)
+	movl	64(%rsp), %eax
+	movl	67(%rsp), %ecx
+	movl	%eax, 89(%rdx)
+	movl	%ecx, 92(%rdx)
+	movq	$0, 96(%rdx)
+	movb	$0, 104(%rdx)
+	movl	56(%rsp), %eax
+	movl	59(%rsp), %ecx
+	movl	%ecx, 108(%rdx)
+	movl	%eax, 105(%rdx)
+	movq	$0, 112(%rdx)
+	movb	$0, 120(%rdx)
+	movl	48(%rsp), %eax
+	movl	51(%rsp), %ecx
+	movl	%ecx, 124(%rdx)
+	movl	%eax, 121(%rdx)
+	movq	$0, 128(%rdx)
+	movq	120(%rsp), %rcx
+	movq	%rcx, 136(%rdx)
+	movq	160(%rsp), %rax
+	movq	%rax, 144(%rdx)
+	movq	%rcx, 152(%rdx)
+	movq	152(%rsp), %rax
+	movq	%rax, 160(%rdx)
+	movq	%rcx, 168(%rdx)
+	movq	112(%rsp), %rax
+	movq	%rax, 176(%rdx)
+	movq	%rcx, 184(%rdx)
+	movq	144(%rsp), %rax
+	movq	%rax, 192(%rdx)
+	movq	168(%rsp), %rax
+	movq	%rax, 200(%rdx)
+	movq	184(%rsp), %rax
+	movq	%rax, 208(%rdx)
+	movq	176(%rsp), %rax
+	movq	%rax, 216(%rdx)
+	movq	128(%rsp), %r15
+	movq	$0, (%r15)
+	movq	%rdx, 8(%r15)
+	jmp	10f
+8:
+	movzbl	12(%rsp), %eax
+	movq	$1, (%rdi)
+	movabsq	$281474976645120, %rcx
+	andq	%rcx, %r13
+	orq	%r13, %rax
+	movq	%rax, 8(%rdi)
+	movq	%r14, 16(%rdi)
+	jmp	11f
+9:
+	movq	128(%rsp), %r15
+	movq	$1, (%r15)
+	movq	$7, 8(%r15)
+10:
+	movq	$0, 16(%r15)
+11:
+	addq	$232, %rsp
 	popq	%rbx
 	popq	%r12
 	popq	%r13
@@ -246,229 +260,104 @@
 	popq	%r15
 	popq	%rbp
 	retq
-16:
-	xorl	%edx, %edx
-	cmpl	%eax, (%r13,%rcx,8)
-	sete	%dl
-	addq	%rdx, %r14
-	incq	%rcx
-17:
-	cmpq	%rcx, %rsi
-	jne	16b
-	movw	$0, 84(%rsp)
-	movl	$0, 80(%rsp)
-	movw	$7, %dx
-	movabsq	$384307168202282325, %rax
-	cmpq	%rax, %rsi
-	ja	27f
-	leaq	(,%rsi,8), %rax
-	movq	%rsi, %rbp
-	leaq	(%rax,%rax,2), %rdi
-	movl	$8, %esi
-	callq	rattle_alloc@PLT
-	testb	$1, %al
-	je	29f
-	movq	%rdx, %r10
-	movq	%rdx, 32(%rsp)
-	movq	$0, 40(%rsp)
-	movq	%rbp, 48(%rsp)
-	xorl	%r9d, %r9d
-	xorl	%ebx, %ebx
-	movq	(%rsp), %r11
-	movq	%rbp, %rdi
-	movq	%rbp, 216(%rsp)
-	movq	%r12, 56(%rsp)
+12:
+	movl	(%rbp,%rdx), %edx
+	bswapl	%edx
+	leaq	(%rdx,%rdx,2), %rsi
+	leaq	(%rax,%rsi,4), %rax
+	xorl	%esi, %esi
+	cmpq	%rax, %r14
+	cmovaeq	%rdx, %rsi
+13:
+	bswapl	%r9d
+	pshufb	%xmm0, %xmm2
+	andq	%rbp, %r15
+	movq	%r14, %rax
+	shrq	$2, %rax
+	movq	%r14, %rdx
+	shrq	$3, %rdx
+	leaq	(%rax,%rdx), %rbx
+	addq	$5, %rbx
+	leaq	2(%rdx), %r12
+	movq	%r14, %rax
+	shrq	%rax
+	addq	%rdx, %rax
+	addq	$3, %rax
+	movq	%rax, 112(%rsp)
+	leaq	4(%rdx,%rdx,2), %rdx
+	movl	$0, 43(%rsp)
+	movl	$0, 40(%rsp)
+	movl	$0, 32(%rsp)
+	movl	$0, 35(%rsp)
+	movl	$0, 24(%rsp)
+	movl	$0, 27(%rsp)
+	movl	$0, 16(%rsp)
+	movl	$0, 19(%rsp)
+	movl	$1, %eax
+	movq	%rax, 120(%rsp)
+	movb	$1, %al
+	movl	%ebp, %r11d
+	movl	%r11d, 12(%rsp)
+	movq	%rbp, %r13
+	movl	%ecx, %r11d
+	movq	112(%rsp), %rcx
+	jmp	5b
+14:
+	.size	"mime_c::database::open::open", 14b-"mime_c::database::open::open"
+
+	.text
 	.p2align	4
-18:
-	movl	4(%r13,%rbx,8), %r8d
-	movq	8(%r15), %r12
-	subq	%r8, %r12
-	jbe	33f
-	movq	(%r15), %rsi
-	addq	%r8, %rsi
-	cmpq	$32, %r12
-	jae	21f
-19:
-	movq	%rbx, 232(%rsp)
-	movq	%r10, (%rsp)
-	movq	%r9, 96(%rsp)
-	movq	%r8, 224(%rsp)
-	movq	%r11, %rbx
-	cmpq	$256, %r12
-	movl	$256, %ebp
-	cmovbq	%r12, %rbp
-	xorl	%edi, %edi
-	movq	%rsi, 64(%rsp)
-	movq	%rbp, %rdx
-	callq	"memchr::bytes::memchr"
-	cmpb	$1, %al
-	jne	36f
-	leaq	1(%rdx), %rax
-	addq	%rbx, %rax
-	movq	$-1, %r11
-	movq	216(%rsp), %rdi
-	movq	(%rsp), %r10
-	jb	20f
-	movq	%rax, %r11
-20:
-	movq	56(%rsp), %r12
-	movq	96(%rsp), %r9
-	movq	232(%rsp), %rbx
-	movq	64(%rsp), %rsi
-	jmp	24f
-21:
-	movdqu	(%rsi), %xmm1
-	pxor	%xmm0, %xmm0
-	pcmpeqb	%xmm0, %xmm1
-	pmovmskb	%xmm1, %ecx
-	movl	$64, %eax
-	movl	$64, %edx
-	rep		bsfq	%rcx, %rdx
-	cmpq	$16, %rdx
-	jb	22f
-	movdqu	16(%rsi), %xmm1
-	pcmpeqb	%xmm0, %xmm1
-	pmovmskb	%xmm1, %ecx
-	rep		bsfq	%rcx, %rax
-	cmpq	$15, %rax
-	ja	19b
-	orq	$16, %rax
-	movq	%rax, %rdx
-22:
-	leaq	1(%rdx), %rax
-	addq	%r11, %rax
-	movq	$-1, %r11
-	jb	23f
-	movq	%rax, %r11
-23:
-	movq	56(%rsp), %r12
-24:
-	movl	(%r13,%rbx,8), %ebp
-	movzwl	84(%rsp), %eax
-	movw	%ax, 92(%rsp)
-	movl	80(%rsp), %eax
-	movl	%eax, 88(%rsp)
-	cmpq	%r9, 48(%rsp)
-	je	26f
-25:
-	movl	%ebp, %eax
-	shrl	$17, %eax
-	andb	$1, %bpl
-	leaq	(%r9,%r9,2), %rcx
-	movq	%rsi, (%r10,%rcx,8)
-	movq	%rdx, 8(%r10,%rcx,8)
-	movb	%al, 16(%r10,%rcx,8)
-	movb	%bpl, 17(%r10,%rcx,8)
-	movl	88(%rsp), %eax
-	movl	%eax, 18(%r10,%rcx,8)
-	movzwl	92(%rsp), %eax
-	movw	%ax, 22(%r10,%rcx,8)
-	incq	%r9
-	movq	%r9, 40(%rsp)
-	incq	%rbx
-	cmpq	%rbx, %rdi
-	jne	18b
-	jmp	34f
-26:
-	movq	%rsi, 64(%rsp)
-	movq	%r11, (%rsp)
-	movq	%rdx, %r12
-	leaq	32(%rsp), %rdi
-	callq	"std_alloc::vec::Vec::grow_amortized::<#a3c068ff6e7a6e86>"
-	testb	%al, %al
-	je	38f
-	movq	32(%rsp), %r10
-	movq	40(%rsp), %r9
-	movq	%r12, %rdx
-	movq	56(%rsp), %r12
-	movq	(%rsp), %r11
-	movq	216(%rsp), %rdi
-	movq	64(%rsp), %rsi
-	jmp	25b
-27:
-	xorl	%r8d, %r8d
-28:
-	movq	8(%rsp), %rax
-	jmp	31f
-29:
-	xorl	%r8d, %r8d
-30:
-	movq	8(%rsp), %rax
-	movw	$7, %dx
-31:
-	xorl	%r13d, %r13d
-	cmpb	$1, 104(%rsp)
-	pxor	%xmm0, %xmm0
-	movl	$1, %ebp
-	movl	$0, %r15d
-	jne	32f
-	cmpq	$0, 128(%rsp)
-	je	32f
-	movq	112(%rsp), %rdi
-	movq	%rdx, %r14
-	movq	%r8, %r15
-	callq	rattle_dealloc@PLT
-	pxor	%xmm0, %xmm0
-	movq	%r15, %r8
-	movq	%r14, %rdx
-	movq	8(%rsp), %rax
-	xorl	%r15d, %r15d
-	xorl	%r13d, %r13d
-32:
-	xorl	%r14d, %r14d
-	movq	(%rsp), %r11
-	jmp	15b
-33:
-	movw	$3, %dx
-	jmp	37f
-34:
-	movzwl	32(%rsp), %edx
-	movzwl	38(%rsp), %r15d
-	movd	34(%rsp), %xmm0
-	movq	48(%rsp), %r13
-	movzbl	104(%rsp), %eax
-	xorl	%ebp, %ebp
-	cmpb	$1, %al
-	movq	16(%rsp), %rbx
-	je	11b
-35:
-	movq	%r9, %r8
-	movq	8(%rsp), %rax
-	jmp	15b
-36:
-	addq	%rbx, %rbp
-	movq	$-1, %r11
-	cmovaeq	%rbp, %r11
-	cmpq	$256, %r12
-	movw	$4, %dx
-	sbbw	$0, %dx
-	movq	224(%rsp), %r8
-	movq	(%rsp), %r10
-37:
-	movq	%r11, (%rsp)
-	cmpq	$0, 48(%rsp)
-	movq	56(%rsp), %r12
-	movq	16(%rsp), %rbx
-	je	28b
-	movq	%r10, %rdi
-	movq	%rdx, %r14
-	movq	%r8, %r15
-	callq	rattle_dealloc@PLT
-	movq	%r15, %r8
-	movq	%r14, %rdx
-	jmp	28b
-38:
-	cmpq	$0, 48(%rsp)
-	je	39f
-	movq	32(%rsp), %rdi
-	callq	rattle_dealloc@PLT
-39:
-	xorl	%r8d, %r8d
-	movq	56(%rsp), %r12
-	movq	16(%rsp), %rbx
-	jmp	30b
-40:
-	.size	"mime_c::hits::hits_of", 40b-"mime_c::hits::hits_of"
+	.type	"mime_c::database::open_database::OpenDatabase::read_paid",@function
+"mime_c::database::open_database::OpenDatabase::read_paid":
+	subq	$24, %rsp
+	xorps	%xmm0, %xmm0
+	movaps	%xmm0, (%rsp)
+	cmpb	$1, 136(%rdi)
+	jne	1f
+	cmpq	$0, 144(%rdi)
+	jne	1f
+	leaq	136(%rdi), %rax
+	movups	%xmm0, (%rax)
+	movq	%rsp, %rsi
+	callq	"mime_lookup::cached::paid_cache::PaidCache::read_names"
+	addq	$24, %rsp
+	retq
+1:
+	cmpb	$1, 152(%rdi)
+	jne	2f
+	cmpq	$0, 160(%rdi)
+	jne	2f
+	leaq	152(%rdi), %rax
+	movups	%xmm0, (%rax)
+	movq	%rsp, %rsi
+	callq	"mime_lookup::cached::paid_cache::PaidCache::read_magic"
+	addq	$24, %rsp
+	retq
+2:
+	cmpb	$1, 168(%rdi)
+	jne	3f
+	cmpq	$0, 176(%rdi)
+	jne	3f
+	leaq	168(%rdi), %rax
+	movups	%xmm0, (%rax)
+	movq	%rsp, %rsi
+	callq	"mime_lookup::cached::paid_cache::PaidCache::read_pairs"
+	addq	$24, %rsp
+	retq
+3:
+	cmpb	$1, 184(%rdi)
+	jne	4f
+	cmpq	$0, 192(%rdi)
+	jne	4f
+	leaq	184(%rdi), %rax
+	movups	%xmm0, (%rax)
+	movq	%rsp, %rsi
+	callq	"mime_lookup::cached::paid_cache::PaidCache::read_icons"
+4:
+	addq	$24, %rsp
+	retq
+5:
+	.size	"mime_c::database::open_database::OpenDatabase::read_paid", 5b-"mime_c::database::open_database::OpenDatabase::read_paid"
 
 	.section	.rodata.cst16,"aM",@progbits,16
 	.p2align	4, 0x0

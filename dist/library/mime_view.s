@@ -2557,6 +2557,481 @@
 	.section	.rodata.cst16,"aM",@progbits,16
 	.p2align	4, 0x0
 1:
+	.quad	1,1
+	.text
+	.p2align	4
+	.type	"mime_view::cache::Cache::rule_hits",@function
+"mime_view::cache::Cache::rule_hits":
+	pushq	%rbp
+	pushq	%r15
+	pushq	%r14
+	pushq	%r13
+	pushq	%r12
+	pushq	%rbx
+	subq	$360, %rsp
+	movq	%r9, %rbx
+	movq	%r8, %r14
+	movq	%rsi, %r15
+	movq	%rdi, %rbp
+	movq	$0, 280(%rsp)
+	movq	%rsi, 256(%rsp)
+	movq	%rdx, 264(%rsp)
+	movq	%rcx, 272(%rsp)
+	movb	$2, 280(%rsp)
+	movl	36(%rsi), %eax
+	movq	28(%rsi), %rcx
+	movq	%rcx, 192(%rsp)
+	movl	%eax, 200(%rsp)
+	xorps	%xmm0, %xmm0
+	movups	%xmm0, 112(%rsp)
+	movaps	%xmm0, 32(%rsp)
+	movq	$0, 48(%rsp)
+	movups	%xmm0, 128(%rsp)
+	movups	%xmm0, 144(%rsp)
+	movq	$1, 104(%rsp)
+	movups	(%r8), %xmm0
+	movups	%xmm0, 160(%rsp)
+	movups	(%r9), %xmm0
+	movups	%xmm0, 176(%rsp)
+	leaq	32(%rsp), %rdi
+	leaq	256(%rsp), %rsi
+	leaq	192(%rsp), %rdx
+	leaq	104(%rsp), %rcx
+	callq	"mime_view::name::gather_hits"
+	movq	160(%rsp), %r11
+	movq	168(%rsp), %r8
+	movdqu	176(%rsp), %xmm0
+	movdqa	%xmm0, 336(%rsp)
+	cmpb	$0, 32(%rsp)
+	movq	%r14, 248(%rsp)
+	je	2f
+	movq	48(%rsp), %r9
+	movd	42(%rsp), %xmm1
+	movzbl	40(%rsp), %ecx
+	movq	120(%rsp), %rdi
+	cmpb	$0, 104(%rsp)
+	je	4f
+	cmpb	$1, 112(%rsp)
+	jne	6f
+	cmpq	$0, 136(%rsp)
+	jne	5f
+	jmp	6f
+2:
+	movq	%r8, (%rsp)
+	movq	%r11, 8(%rsp)
+	movq	%rbx, 16(%rsp)
+	leaq	120(%rsp), %rbx
+	movzbl	112(%rsp), %eax
+	movups	(%rbx), %xmm0
+	movups	16(%rbx), %xmm1
+	movaps	%xmm0, 288(%rsp)
+	movaps	%xmm1, 304(%rsp)
+	movq	32(%rbx), %rcx
+	movq	%rcx, 320(%rsp)
+	cmpb	$0, 104(%rsp)
+	je	15f
+	xorps	%xmm0, %xmm0
+	movaps	%xmm0, 192(%rsp)
+	movq	$0, 208(%rsp)
+	movdqa	288(%rsp), %xmm0
+	movdqa	304(%rsp), %xmm1
+	movdqu	%xmm0, 112(%rsp)
+	movdqu	%xmm1, 128(%rsp)
+	movq	320(%rsp), %rcx
+	movq	%rcx, 144(%rsp)
+	movq	%rax, 104(%rsp)
+	leaq	192(%rsp), %rdi
+	leaq	104(%rsp), %rsi
+	callq	"mime_view::hits::sort_by_rank"
+	cmpb	$0, 192(%rsp)
+	je	7f
+	movq	208(%rsp), %r9
+	movd	202(%rsp), %xmm1
+	movzbl	200(%rsp), %ecx
+	xorl	%r15d, %r15d
+	cmpb	$1, 104(%rsp)
+	movl	$1, %r12d
+	movl	$0, %r14d
+	jne	8f
+	cmpq	$0, 128(%rsp)
+	movq	16(%rsp), %rbx
+	je	3f
+	movq	112(%rsp), %rdi
+	movq	%rcx, %r14
+	movq	%r9, %r15
+	movdqa	%xmm1, 64(%rsp)
+	callq	rattle_dealloc@PLT
+	movdqa	64(%rsp), %xmm1
+	movq	%r15, %r9
+	movq	%r14, %rcx
+	xorl	%r14d, %r14d
+	xorl	%r15d, %r15d
+3:
+	xorl	%r13d, %r13d
+	jmp	9f
+4:
+	cmpb	$1, %dil
+	jne	6f
+	cmpq	$0, 144(%rsp)
+	je	6f
+	movq	128(%rsp), %rdi
+5:
+	movq	%r11, %r14
+	movq	%r8, %r15
+	movq	%rcx, %r12
+	movq	%r9, %r13
+	movdqa	%xmm1, 64(%rsp)
+	callq	rattle_dealloc@PLT
+	movdqa	64(%rsp), %xmm1
+	movq	%r13, %r9
+	movq	%r12, %rcx
+	movq	%r15, %r8
+	movq	%r14, %r11
+6:
+	movl	$1, %r12d
+	xorl	%r14d, %r14d
+	xorl	%r15d, %r15d
+	xorl	%r13d, %r13d
+	jmp	33f
+7:
+	movq	%rbp, 56(%rsp)
+	leaq	112(%rsp), %rbp
+	movzbl	104(%rsp), %eax
+	testb	%al, %al
+	cmovneq	112(%rsp), %rbp
+	leaq	144(%rsp), %rcx
+	cmoveq	%rcx, %rbx
+	movq	(%rbx), %rsi
+	testq	%rsi, %rsi
+	je	10f
+	movl	(%rbp), %eax
+	cmpq	$4, %rsi
+	jae	12f
+	xorl	%r13d, %r13d
+	xorl	%ecx, %ecx
+	movq	16(%rsp), %rbx
+	jmp	16f
+8:
+	xorl	%r13d, %r13d
+	movq	16(%rsp), %rbx
+9:
+	movq	8(%rsp), %r11
+	jmp	32f
+10:
+	leaq	24(%rsp), %rcx
+	movq	%rcx, %rdx
+	shrq	$32, %rdx
+	movq	%rcx, %r14
+	movd	%ecx, %xmm1
+	psrld	$16, %xmm1
+	pinsrw	$1, %edx, %xmm1
+	shrq	$48, %r14
+	xorl	%r13d, %r13d
+	xorl	%r10d, %r10d
+	xorl	%r15d, %r15d
+	movq	8(%rsp), %r11
+	movq	(%rsp), %r8
+11:
+	xorl	%r12d, %r12d
+	cmpb	$1, %al
+	movq	56(%rsp), %rbp
+	movq	16(%rsp), %rbx
+	jne	14f
+	cmpq	$0, 128(%rsp)
+	je	14f
+	movq	112(%rsp), %rdi
+	movq	%r8, %r12
+	movq	%rcx, 96(%rsp)
+	movdqa	%xmm1, 64(%rsp)
+	movq	%r10, (%rsp)
+	callq	rattle_dealloc@PLT
+	movdqa	64(%rsp), %xmm1
+	movq	96(%rsp), %rcx
+	movq	%r12, %r8
+	movq	8(%rsp), %r11
+	xorl	%r12d, %r12d
+	movq	(%rsp), %r9
+	jmp	33f
+12:
+	movq	%rsi, %rcx
+	andq	$-4, %rcx
+	movd	%eax, %xmm0
+	pshufd	$0, %xmm0, %xmm1
+	pxor	%xmm0, %xmm0
+	xorl	%edx, %edx
+	pxor	%xmm2, %xmm2
+	movq	16(%rsp), %rbx
+	.p2align	4
+13:
+	movd	(%rbp,%rdx,8), %xmm3
+	pinsrd	$1, 8(%rbp,%rdx,8), %xmm3
+	movd	16(%rbp,%rdx,8), %xmm4
+	pinsrd	$1, 24(%rbp,%rdx,8), %xmm4
+	pcmpeqd	%xmm1, %xmm3
+	pmovzxdq	%xmm3, %xmm3
+	movdqa	1b(%rip), %xmm5
+	pand	%xmm5, %xmm3
+	paddq	%xmm3, %xmm2
+	pcmpeqd	%xmm1, %xmm4
+	pmovzxdq	%xmm4, %xmm3
+	pand	%xmm5, %xmm3
+	paddq	%xmm3, %xmm0
+	addq	$4, %rdx
+	cmpq	%rdx, %rcx
+	jne	13b
+	paddq	%xmm2, %xmm0
+	pshufd	$238, %xmm0, %xmm1
+	paddq	%xmm0, %xmm1
+	movq	%xmm1, %r13
+	jmp	17f
+14:
+	movq	%r10, %r9
+	jmp	33f
+15:
+	ud2
+16:
+	xorl	%edx, %edx
+	cmpl	%eax, (%rbp,%rcx,8)
+	sete	%dl
+	addq	%rdx, %r13
+	incq	%rcx
+17:
+	cmpq	%rcx, %rsi
+	jne	16b
+	movw	$0, 84(%rsp)
+	movl	$0, 80(%rsp)
+	movw	$7, %cx
+	movabsq	$384307168202282325, %rax
+	cmpq	%rax, %rsi
+	ja	26f
+	leaq	(,%rsi,8), %rax
+	movq	%rsi, %r12
+	leaq	(%rax,%rax,2), %rdi
+	movl	$8, %esi
+	callq	rattle_alloc@PLT
+	testb	$1, %al
+	je	28f
+	movq	%rdx, 32(%rsp)
+	movq	$0, 40(%rsp)
+	movq	%r12, 48(%rsp)
+	xorl	%r10d, %r10d
+	xorl	%ebx, %ebx
+	movq	8(%rsp), %r11
+	movq	(%rsp), %r8
+	movq	%r15, 232(%rsp)
+	movq	%r12, %rdi
+	movq	%r12, 216(%rsp)
+	.p2align	4
+18:
+	movl	4(%rbp,%rbx,8), %r9d
+	movq	8(%r15), %r12
+	subq	%r9, %r12
+	jbe	34f
+	movq	(%r15), %rsi
+	addq	%r9, %rsi
+	cmpq	$32, %r12
+	jae	21f
+19:
+	movq	%rbx, 96(%rsp)
+	movq	%rdx, 64(%rsp)
+	movq	%r10, (%rsp)
+	movq	%r9, 224(%rsp)
+	movq	%r8, %rbx
+	cmpq	$256, %r12
+	movl	$256, %r15d
+	cmovbq	%r12, %r15
+	xorl	%edi, %edi
+	movq	%rsi, 240(%rsp)
+	movq	%r15, %rdx
+	callq	"memchr::bytes::memchr"
+	cmpb	$1, %al
+	jne	36f
+	movq	%rdx, %r14
+	leaq	1(%rdx), %rax
+	addq	%rbx, %rax
+	movq	$-1, %r8
+	movq	216(%rsp), %rdi
+	movq	64(%rsp), %rdx
+	jb	20f
+	movq	%rax, %r8
+20:
+	movq	8(%rsp), %r11
+	movq	(%rsp), %r10
+	movq	96(%rsp), %rbx
+	movq	240(%rsp), %rsi
+	jmp	23f
+21:
+	movdqu	(%rsi), %xmm1
+	pxor	%xmm0, %xmm0
+	pcmpeqb	%xmm0, %xmm1
+	pmovmskb	%xmm1, %ecx
+	movl	$64, %eax
+	movl	$64, %r14d
+	rep		bsfq	%rcx, %r14
+	cmpq	$16, %r14
+	jb	22f
+	movdqu	16(%rsi), %xmm1
+	pcmpeqb	%xmm0, %xmm1
+	pmovmskb	%xmm1, %ecx
+	rep		bsfq	%rcx, %rax
+	cmpq	$15, %rax
+	ja	19b
+	orq	$16, %rax
+	movq	%rax, %r14
+22:
+	leaq	1(%r14), %rax
+	addq	%r8, %rax
+	movq	$-1, %r8
+	jb	23f
+	movq	%rax, %r8
+	.p2align	4
+23:
+	movl	(%rbp,%rbx,8), %r15d
+	movzwl	84(%rsp), %eax
+	movw	%ax, 92(%rsp)
+	movl	80(%rsp), %eax
+	movl	%eax, 88(%rsp)
+	cmpq	%r10, 48(%rsp)
+	je	25f
+24:
+	movl	%r15d, %eax
+	shrl	$17, %eax
+	andb	$1, %r15b
+	leaq	(%r10,%r10,2), %rcx
+	movq	%rsi, (%rdx,%rcx,8)
+	movq	%r14, 8(%rdx,%rcx,8)
+	movb	%al, 16(%rdx,%rcx,8)
+	movb	%r15b, 17(%rdx,%rcx,8)
+	movl	88(%rsp), %eax
+	movl	%eax, 18(%rdx,%rcx,8)
+	movzwl	92(%rsp), %eax
+	movw	%ax, 22(%rdx,%rcx,8)
+	incq	%r10
+	movq	%r10, 40(%rsp)
+	incq	%rbx
+	cmpq	%rbx, %rdi
+	movq	232(%rsp), %r15
+	jne	18b
+	jmp	35f
+25:
+	movq	%rsi, %r12
+	movq	%r8, (%rsp)
+	leaq	32(%rsp), %rdi
+	callq	"std_alloc::vec::Vec::grow_amortized::<#a3c068ff6e7a6e86>"
+	testb	%al, %al
+	je	38f
+	movq	32(%rsp), %rdx
+	movq	40(%rsp), %r10
+	movq	8(%rsp), %r11
+	movq	(%rsp), %r8
+	movq	216(%rsp), %rdi
+	movq	%r12, %rsi
+	jmp	24b
+26:
+	xorl	%r9d, %r9d
+	movq	56(%rsp), %rbp
+27:
+	movq	8(%rsp), %r11
+	jmp	30f
+28:
+	xorl	%r9d, %r9d
+	movq	56(%rsp), %rbp
+29:
+	movq	8(%rsp), %r11
+	movw	$7, %cx
+30:
+	xorl	%r15d, %r15d
+	cmpb	$1, 104(%rsp)
+	pxor	%xmm1, %xmm1
+	movl	$1, %r12d
+	movl	$0, %r14d
+	jne	31f
+	cmpq	$0, 128(%rsp)
+	je	31f
+	movq	112(%rsp), %rdi
+	movq	%rcx, %r14
+	movq	%r9, %r15
+	callq	rattle_dealloc@PLT
+	pxor	%xmm1, %xmm1
+	movq	%r15, %r9
+	movq	%r14, %rcx
+	movq	8(%rsp), %r11
+	xorl	%r14d, %r14d
+	xorl	%r15d, %r15d
+31:
+	xorl	%r13d, %r13d
+32:
+	movq	(%rsp), %r8
+33:
+	movq	248(%rsp), %rax
+	movq	%r11, (%rax)
+	movq	%r8, 8(%rax)
+	movaps	336(%rsp), %xmm0
+	movups	%xmm0, (%rbx)
+	movq	%r12, (%rbp)
+	movw	%cx, 8(%rbp)
+	movd	%xmm1, 10(%rbp)
+	movw	%r14w, 14(%rbp)
+	movq	%r9, 16(%rbp)
+	movq	%r15, 24(%rbp)
+	movq	%r13, 32(%rbp)
+	addq	$360, %rsp
+	popq	%rbx
+	popq	%r12
+	popq	%r13
+	popq	%r14
+	popq	%r15
+	popq	%rbp
+	retq
+34:
+	movw	$3, %cx
+	jmp	37f
+35:
+	movzwl	32(%rsp), %ecx
+	movzwl	38(%rsp), %r14d
+	movd	34(%rsp), %xmm1
+	movq	48(%rsp), %r15
+	movzbl	104(%rsp), %eax
+	jmp	11b
+36:
+	addq	%rbx, %r15
+	movq	$-1, %r8
+	cmovaeq	%r15, %r8
+	cmpq	$256, %r12
+	movw	$4, %cx
+	sbbw	$0, %cx
+	movq	8(%rsp), %r11
+	movq	224(%rsp), %r9
+	movq	64(%rsp), %rdx
+37:
+	movq	%r8, (%rsp)
+	cmpq	$0, 48(%rsp)
+	movq	56(%rsp), %rbp
+	movq	16(%rsp), %rbx
+	je	30b
+	movq	%rdx, %rdi
+	movq	%rcx, %r14
+	movq	%r9, %r15
+	callq	rattle_dealloc@PLT
+	movq	%r15, %r9
+	movq	%r14, %rcx
+	jmp	27b
+38:
+	cmpq	$0, 48(%rsp)
+	je	39f
+	movq	32(%rsp), %rdi
+	callq	rattle_dealloc@PLT
+39:
+	xorl	%r9d, %r9d
+	movq	56(%rsp), %rbp
+	movq	16(%rsp), %rbx
+	jmp	29b
+40:
+	.size	"mime_view::cache::Cache::rule_hits", 40b-"mime_view::cache::Cache::rule_hits"
+
+	.section	.rodata.cst16,"aM",@progbits,16
+	.p2align	4, 0x0
+1:
 	.byte	42,42,42,42,42,42,42,42
 	.zero	1
 	.zero	1

@@ -1,9 +1,9 @@
 /* mimelook: the MIME type of a file by its name and its content, from the bytes of a mime.cache that nobody vouches for.
  *
  * Every function is total: any bytes and any lengths give a report. None keeps anything between calls, but in a database that
- * was opened (mimelook_open), so threads may ask the same cache at once. A pointer with length 0 may be NULL; any other has to
- * point to that many bytes that nothing writes while the call runs, and what a call writes to must not overlap anything else
- * that it is given.
+ * was opened (mimelook_open, mimelook_open_directories), so threads may ask the same cache at once. A pointer with length 0 may
+ * be NULL; any other has to point to that many bytes that nothing writes while the call runs, and what a call writes to must
+ * not overlap anything else that it is given.
  *
  * What is written through a pointer is as it was unless the report's status is MIMELOOK_ANSWERED. Memory is taken by
  * malloc and realloc and given back before the call returns, what a database keeps when it is closed. Not for signal handlers,
@@ -276,18 +276,29 @@ mimelook_merge_report mimelook_merge(const mimelook_directory *directories, size
  * gives: the same answers, statuses and structs, and leaves what it was given as it was where that does; but `nodes` and `bytes`
  * say what this call did. For NULL the status is MIMELOOK_NOT_OPEN, and nothing is written.
  *
- * The cache's bytes stay the caller's: nothing may write to them or let go of them until the database is closed. A text of an
- * answer lies in them, or in the library, or is the caller's own type (mimelook_database_unalias): it is there as long as these
- * are, and closing takes none away.
+ * The bytes of a cache that mimelook_open opens stay the caller's: nothing may write to them or let go of them until the
+ * database is closed. Those of a cache that mimelook_open_directories makes are the database's, and go when it is closed. A
+ * text of an answer lies in these bytes, or in the library, or is the caller's own type (mimelook_database_unalias): it is
+ * there as long as these are.
+ *
+ * Any call may be the one that reads back a part of the cache, once those before it have visited as many records as that
+ * takes: it takes longer, and memory that closing gives back.
  *
  * One call at a time serves a handle, which may go to another thread between two calls; many threads open one each over the same
- * bytes, or ask by the calls over the bytes. Nothing can check that a handle is what mimelook_open gave, that it is closed once,
+ * bytes, or ask by the calls over the bytes. Nothing can check that a handle is what opening gave, that it is closed once,
  * and that it is not asked once it is closed: all three are the caller's, as they are with free. */
 typedef struct mimelook_database mimelook_database;
 
 /* Opens a cache. *database is NULL unless the status is MIMELOOK_ANSWERED; it is written whatever it was. The status is
  * MIMELOOK_OUT_OF_MEMORY, or what mimelook_check says of the cache. A cache of which only the header is sound is opened too. */
 mimelook_report mimelook_open(const uint8_t *cache, size_t cache_length, mimelook_database **database);
+
+/* Merges the texts of data directories, the most preferred first, as mimelook_merge does, and opens the cache that this makes.
+ * The report is that of mimelook_merge, but never MIMELOOK_SHORT_BUFFER. *database is NULL unless its status is
+ * MIMELOOK_ANSWERED; it is written whatever it was. The texts are not read once the call returns. The cache's bytes are the
+ * database's: copy a text that is needed once it is closed. One that lies in them has a zero byte after it. */
+mimelook_merge_report mimelook_open_directories(const mimelook_directory *directories, size_t count,
+    mimelook_database **database);
 
 /* Closes a database, and gives its memory back. Of NULL nothing is done. */
 void mimelook_close(mimelook_database *database);
