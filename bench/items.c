@@ -1,6 +1,6 @@
 /* Asks libmimelook what a file manager asks for each item of a folder: the type of its name, the icons of that, and whether it is
  * text/plain. items INPUTS, a file of texts, the cache and then the names, each its length, in four bytes, its bytes and a zero. It prints
- * a digest of all answers. The cache is kept open where the library can keep one, and else given in each call. */
+ * a digest of all answers. With BY_HANDLE the cache is kept open, and else given in each call. */
 #include "read_all.h"
 #include <mimelook.h>
 #include <stdbool.h>
@@ -20,7 +20,7 @@ static void answered(mimelook_report report) {
     }
 }
 
-#ifdef MIMELOOK_NOT_OPEN
+#ifdef BY_HANDLE
 static mimelook_database *database;
 
 static void open_cache(void) {
