@@ -1,6 +1,6 @@
 -- The rules near a name: those that an index asks for it, but for at most one at each node on its way.
 pub mod Rows
-use Rattle.std.specs.Prelude.{ℕ, ◌+◌, ◌*◌, ◌-◌, Bool, ◌&&◌, ◌||◌, ◌==◌, if◌then◌else◌, List, [], ◌∷◌, length, drop, filter}
+use Rattle.std.specs.Prelude.{ℕ, ◌+◌, ◌*◌, ◌-◌, max, Bool, ◌&&◌, ◌||◌, ◌==◌, if◌then◌else◌, List, [], ◌∷◌, length, drop, filter}
 use Rattle.std.specs.Str.{bytes_eq}
 use Rattle.mime_base.specs.Kept.{class_of}
 use Rattle.mime_base.specs.Matching.Elements.{is_special}
@@ -46,3 +46,13 @@ near_texts name rules = length (filter (λ rule. is_text_rule rule && near_rule 
 -- the nodes that are counted at most, for the length of a name and the number of rules near it
 abbrev pub near_nodes : ℕ → ℕ → ℕ
 near_nodes name rules = 3 * name + 6 + rules
+
+-- the length of the longest pattern of some rules
+unfoldable pub longest : List GlobRule → ℕ
+longest [] = 0
+longest (rule ∷ rules) = max (length rule.pattern) (longest rules)
+
+-- the bytes that are compared at most, for the length of a name, the longest pattern and the number of rules near it: a pattern is tried
+-- from each place of a name, and what is tried is compared up to the pattern's end and one
+abbrev pub near_bytes : ℕ → ℕ → ℕ → ℕ
+near_bytes name pattern rules = rules * ((pattern + 1) * (name + 1))

@@ -2,7 +2,7 @@
 use Rattle.std.specs.Prelude.{◌≡◌, ℕ, ◌+◌, false, refl, codes, List, [], ◌∷◌}
 use Rattle.mime_base.specs.Kept.{class_of}
 use Rattle.mime_base.specs.declared.database.rule.GlobRule.{GlobRule}
-use Rattle.mime_names.specs.Near.{near_nodes, near_rules, near_texts}
+use Rattle.mime_names.specs.Near.{longest, near_bytes, near_nodes, near_rules, near_texts}
 
 -- a rule of a pattern
 abbrev rule : List ℕ → GlobRule
@@ -54,3 +54,19 @@ nodes_of_a_byte = refl
 
 nodes_of_a_rule : near_nodes 0 1 ≡ 6 + 1
 nodes_of_a_rule = refl
+
+-- the longest pattern of the six is *.tar.gz, and of two that are as long it is either
+longest_of_six : longest six ≡ 8
+unfolding longest
+longest_of_six = refl
+
+longest_of_none : longest [] ≡ 0
+unfolding longest
+longest_of_none = refl
+
+-- two rules of patterns of up to eight bytes, and a name of three
+bytes_of_two : near_bytes 3 8 2 ≡ 72
+bytes_of_two = refl
+
+bytes_of_no_rule : near_bytes 3 8 0 ≡ 0
+bytes_of_no_rule = refl
