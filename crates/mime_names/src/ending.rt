@@ -1,6 +1,6 @@
 //! Whether a name ends with a text, compared from the end on.
 
-ghost use Rattle.std.specs.Prelude.{◌≡◌, ◌+◌, ◌≤◌, ℕ, true, false, length, drop};
+ghost use Rattle.std.specs.Prelude.{◌≡◌, ◌+◌, ◌<◌, ◌≤◌, ℕ, true, false, length, drop};
 ghost use Rattle.mime_base.specs.Matching.Folding.{compared, compared_byte};
 ghost use Rattle.mime_base.specs.Matching.Matches.{EndsSo};
 
@@ -18,6 +18,8 @@ pub fn ends_so(text: &[u8], cased: bool, name: &[u8], meter: &mut Meter) -> bool
     ensures otherwise { result ≡ false → (k : ℕ) → compared cased (drop k name.now) ≡ compared cased text.now → ⊥ }
     // It counts no node.
     ensures nodes { meter.new.nodes ≡ meter.old.nodes }
+    // It compares no more bytes than the name has.
+    ensures bytes { meter.new.bytes ≤ meter.old.bytes + length name.now }
 {
     if name.len() < text.len() {
         return false;
@@ -53,7 +55,8 @@ fn are_alike(cased: bool, left: u8, right: u8) -> bool
 #[inline]
 fn begins_otherwise(text: &[u8], cased: bool, name: &[u8], start: usize) -> bool
     requires { start + length text.now ≡ length name.now }
-    ensures { result ≡ true → (k : ℕ) → compared cased (drop k name.now) ≡ compared cased text.now → ⊥ }
+    ensures some { result ≡ true → 0 < length text.now }
+    ensures otherwise { result ≡ true → (k : ℕ) → compared cased (drop k name.now) ≡ compared cased text.now → ⊥ }
 {
     text.len() > 0 && !are_alike(cased, text[0], name[start])
 }

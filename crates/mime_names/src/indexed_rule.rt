@@ -1,10 +1,10 @@
 //! Rules with what is found of each once, and their patterns in one text.
 
-ghost use Rattle.std.specs.Prelude.{◌≡◌, ◌<◌, ℕ, List, ◌∷◌, get_or, length, map, IfOk};
+ghost use Rattle.std.specs.Prelude.{◌≡◌, ◌+◌, ◌*◌, ◌<◌, ◌≤◌, true, ℕ, List, ◌∷◌, get_or, length, map, IfOk};
 ghost use Rattle.std.specs.List.{All};
 ghost use Rattle.mime_base.specs.Kept.{FitsRank};
 ghost use Rattle.mime_base.specs.Matching.Matches.{rule_matches};
-ghost use Rattle.mime_names.specs.Rules.{IsEntryOf, IsIndexedRule, is_match, own_named, own_plain, pattern_of, plain, plain_named};
+ghost use Rattle.mime_names.specs.Rules.{IsEntryOf, IsIndexedRule, is_match, of_texts, own_named, own_plain, pattern_of, plain, plain_named};
 
 use crate::ending::ends_so;
 use crate::named_rule::NamedRule;
@@ -127,6 +127,10 @@ pub fn is_match(patterns: &[u8], rule: &IndexedRule<'_>, name: &[u8], meter: &mu
     ensures exact { result ≡ is_match patterns.now name.now rule.now }
     // It counts no node.
     ensures nodes { meter.new.nodes ≡ meter.old.nodes }
+    // A text is compared with no more bytes than the name has.
+    ensures text_bytes { of_texts rule.now.class ≡ true → meter.new.bytes ≤ meter.old.bytes + length name.now }
+    // For a pattern of p and a name of n bytes at most (p + 1)·(n + 1) are counted.
+    ensures bytes { meter.new.bytes ≤ meter.old.bytes + (length (pattern_of patterns.now rule.now) + 1) * (length name.now + 1) }
 {
     let pattern = pattern_of(patterns, rule);
     match rule.class {
@@ -142,6 +146,7 @@ pub fn is_match(patterns: &[u8], rule: &IndexedRule<'_>, name: &[u8], meter: &mu
 fn is_general_match(pattern: &[u8], cased: bool, name: &[u8], meter: &mut Meter) -> bool
     ensures exact { result ≡ rule_matches pattern.now cased name.now }
     ensures nodes { meter.new.nodes ≡ meter.old.nodes }
+    ensures bytes { meter.new.bytes ≤ meter.old.bytes + (length pattern.now + 1) * (length name.now + 1) }
 {
     glob_matches(pattern, cased, name, meter)
 }

@@ -14,3 +14,7 @@ returns-then-not-are_alike-clause-nodes c = ap (λ (m : Meter). m.nodes) c.add_b
 
 pub returns-clause-nodes : goal.returns-clause-nodes
 returns-clause-nodes c = ap (λ (m : Meter). m.nodes) c.add_bytes-2.ensures.added ∙ c.loop-left.invariant.nodes
+
+pub returns-then-begins_otherwise-clause-bytes : goal.returns-then-begins_otherwise-clause-bytes
+returns-then-begins_otherwise-clause-bytes c =
+    omega (arith, ap (λ (m : Meter). m.bytes) c.add_bytes.ensures.added, c.begins_otherwise.ensures.some c.if-begins_otherwise.true, c.if-name-text.false)

@@ -6,6 +6,7 @@ abbrev pub invariant-loop-left : goal.invariant-loop-left
 invariant-loop-left l = record {
   within : l.left ≤ length l.text;
   nodes : l.meter.nodes ≡ l.fn.meter.nodes;
+  bytes : l.meter.bytes ≡ l.fn.meter.bytes;
   same : compared l.cased (drop l.left l.text) ≡ compared l.cased (drop (l.start + l.left) l.name);
 }
 
