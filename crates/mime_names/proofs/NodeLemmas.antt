@@ -24,7 +24,7 @@ length-filter_map : {X Y : Type 0} (value : X → Y) (p : Y → Bool) (xs : List
 length-filter_map value p xs = ap length (filter-map value p xs) ∙ length-map (filter (λ x. p (value x)) xs) value
 
 -- of the rules near a name the texts and all others
-near-both : (name : List ℕ) (rules : List GlobRule) →
+pub near-both : (name : List ℕ) (rules : List GlobRule) →
     near_texts name rules + length (filter (λ rule. not (is_text_rule rule) && near_rule name rule) rules) ≡ near_rules name rules
 near-both name rules =
     let near = filter (near_rule name) rules in
@@ -32,7 +32,7 @@ near-both name rules =
     let second = ap length (filter-both (λ (rule : GlobRule). not (is_text_rule rule)) (near_rule name) rules) in
     omega (arith, first, second, length-filter_both is_text_rule (λ (rule : GlobRule). not (is_text_rule rule)) (λ rule. refl) near)
 
-module _ (patterns : List ℕ) (rules : List IndexedRule) (table : KeyTable) (is : IsIndex patterns rules table) (name : List ℕ)
+module _ (patterns : List ℕ) (rules : List IndexedRule) (table : KeyTable) {general : ℕ} (is : IsIndex patterns rules table general) (name : List ℕ)
     (all : List GlobRule) (view : rules_of_index patterns rules ≡ all) where
   -- the keys of the rules
   abbrev keys : List ℕ
@@ -43,7 +43,7 @@ module _ (patterns : List ℕ) (rules : List IndexedRule) (table : KeyTable) (is
   Ends key = IsEndKey table.tree (spelled name) key
 
   -- how many of the rules pass
-  passing : (p : GlobRule → Bool) → length (filter p all) ≡ length (filter (λ rule. p (plain patterns rule)) rules)
+  pub passing : (p : GlobRule → Bool) → length (filter p all) ≡ length (filter (λ rule. p (plain patterns rule)) rules)
   passing p = ap (λ rs. length (filter p rs)) (sym view) ∙ length-filter_map (plain patterns) p rules
 
   -- where the keys of endings are asked for

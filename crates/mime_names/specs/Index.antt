@@ -1,19 +1,20 @@
 -- An index over rules.
-use Rattle.std.specs.Prelude.{ℕ, List, [], ◌∷◌, map}
+use Rattle.std.specs.Prelude.{◌≡◌, ℕ, not, List, [], ◌∷◌, length, map, filter}
 use Rattle.std.specs.Borrow.{Bor}
 use Rattle.std.specs.List.{All}
 use Rattle.mime_base.specs.declared.database.rule.GlobRule.{GlobRule}
 use Rattle.mime_names.specs.Keys.{IsTableOf}
-use Rattle.mime_names.specs.Rules.{IsIndexedRule, own_plain, plain}
+use Rattle.mime_names.specs.Rules.{IsIndexedRule, of_texts, own_plain, plain}
 use Rattle.mime_names.specs.declared.indexed_rule.IndexedRule.{IndexedRule}
 use Rattle.mime_names.specs.declared.keys.KeyTable.{KeyTable}
 use Rattle.mime_names.specs.declared.kept.KeptTypes.{KeptTypes}
 use Rattle.mime_names.specs.declared.kept.KeptTypes.TheVariants.{One, Others}
 
--- each rule has its pattern, its class, its rank and its key
-pub record IsIndex (patterns : List ℕ) (rules : List IndexedRule) (table : KeyTable) : Type 0 where
+-- each rule has its pattern, its class, its rank and its key, and those that are no text and no star before a text are counted
+pub record IsIndex (patterns : List ℕ) (rules : List IndexedRule) (table : KeyTable) (general : ℕ) : Type 0 where
   pub own : All (IsIndexedRule patterns) rules
   pub keyed : IsTableOf table patterns rules
+  pub counted : general ≡ length (filter (λ rule. not (of_texts rule.class)) rules)
 
 -- The rules of an index.
 pub record PlainIndex : Type 0 where

@@ -1,6 +1,6 @@
 -- The rules near a name: those that an index asks for it, but for at most one at each node on its way.
 pub mod Rows
-use Rattle.std.specs.Prelude.{ℕ, ◌+◌, ◌*◌, ◌-◌, max, Bool, ◌&&◌, ◌||◌, ◌==◌, if◌then◌else◌, List, [], ◌∷◌, length, drop, filter}
+use Rattle.std.specs.Prelude.{ℕ, ◌+◌, ◌*◌, ◌-◌, ◌/◌, max, nat_lt, Bool, not, ◌&&◌, ◌||◌, ◌==◌, if◌then◌else◌, List, [], ◌∷◌, length, drop, filter}
 use Rattle.std.specs.Str.{bytes_eq}
 use Rattle.mime_base.specs.Kept.{class_of}
 use Rattle.mime_base.specs.Matching.Elements.{is_special}
@@ -43,6 +43,14 @@ near_rules name rules = length (filter (near_rule name) rules)
 abbrev pub near_texts : List ℕ → List GlobRule → ℕ
 near_texts name rules = length (filter (λ rule. is_text_rule rule && near_rule name rule) rules)
 
+-- how many rules are no text and no star before a text
+abbrev pub general_rules : List GlobRule → ℕ
+general_rules rules = length (filter (λ rule. not (is_text_rule rule)) rules)
+
+-- whether these are most
+abbrev pub is_mostly_general : List GlobRule → Bool
+is_mostly_general rules = nat_lt (length rules / 2) (general_rules rules)
+
 -- the nodes that are counted at most, for the length of a name and the number of rules near it
 abbrev pub near_nodes : ℕ → ℕ → ℕ
 near_nodes name rules = 3 * name + 6 + rules
@@ -52,7 +60,16 @@ unfoldable pub longest : List GlobRule → ℕ
 longest [] = 0
 longest (rule ∷ rules) = max (length rule.pattern) (longest rules)
 
--- the bytes that are compared at most, for the length of a name, the longest pattern and the number of rules near it: a pattern is tried
--- from each place of a name, and what is tried is compared up to the pattern's end and one
+-- the bytes that a rule compares at most, for the lengths of a name and of its pattern: a pattern is tried from each place of a name, and
+-- what is tried is compared up to the pattern's end and one
+abbrev pub rule_bytes : ℕ → ℕ → ℕ
+rule_bytes name pattern = (pattern + 1) * (name + 1)
+
+-- the bytes that are compared at most, for the length of a name, the longest pattern and the number of rules near it: those of these, and
+-- at each node on the name's way those of one text more, which has no more than the name
 abbrev pub near_bytes : ℕ → ℕ → ℕ → ℕ
-near_bytes name pattern rules = rules * ((pattern + 1) * (name + 1))
+near_bytes name pattern rules = rules * rule_bytes name pattern + (name + 1) * name
+
+-- where only texts are compared, of which each has no more bytes than the name
+abbrev pub text_bytes : ℕ → ℕ → ℕ
+text_bytes name texts = (texts + (name + 1)) * name

@@ -3,7 +3,7 @@
 ghost use Rattle.std.specs.Prelude.{◌≡◌, ◌+◌, ◌≤◌, length, map, IfOk};
 ghost use Rattle.mime_base.specs.Kept.{candidate_rules, kept_rules};
 ghost use Rattle.mime_names.specs.Index.{texts_of};
-ghost use Rattle.mime_names.specs.Near.{near_nodes, near_rules};
+ghost use Rattle.mime_names.specs.Near.{longest, near_bytes, near_nodes, near_rules};
 
 use crate::index::NameIndex;
 use crate::ranked::{RankedRules, ranked_rules};
@@ -35,6 +35,9 @@ pub fn candidate_kinds<'a>(
     ensures kept { IfOk result (λ found. found.kept ≡ length (kept_rules index.now.given name.now)) }
     // Three nodes are counted for each byte of the name, six, and one for each rule near it, and no more.
     ensures near { meter.new.nodes ≤ meter.old.nodes + near_nodes (length name.now) (near_rules name.now index.now.given) }
+    // No more bytes are compared than the name's length, the longest pattern and the rules near the name allow.
+    ensures bytes { meter.new.bytes ≤ meter.old.bytes
+        + near_bytes (length name.now) (longest index.now.given) (near_rules name.now index.now.given) }
 {
     let RankedRules { rules, kept } = ranked_rules(alloc, index, name, meter)?;
     let mut kinds = Vec::with_capacity(alloc, rules.len())?;

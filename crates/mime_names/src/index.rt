@@ -1,9 +1,10 @@
 //! An index over glob rules.
 
-ghost use Rattle.std.specs.Prelude.{◌≡◌, map, IfOk};
+ghost use Rattle.std.specs.Prelude.{◌≡◌, not, filter, length, map, IfOk};
 ghost use Rattle.std.specs.List.{All};
 ghost use Rattle.mime_base.specs.Kept.{FitsRank};
-ghost use Rattle.mime_names.specs.Rules.{own_named, plain_named};
+ghost use Rattle.mime_names.specs.Near.{is_mostly_general};
+ghost use Rattle.mime_names.specs.Rules.{of_texts, own_named, plain_named};
 
 use crate::indexed_rule::{IndexedRule, IndexedRules, indexed_rules};
 use crate::keys::{KeyTable, key_table};
@@ -35,7 +36,7 @@ impl<'a> Model for NameIndex<'a> {
 
     ghost view = { λ index. plain_index index.patterns.items index.rules.items };
 
-    ghost invariant = { λ index. IsIndex index.patterns.items index.rules.items index.table };
+    ghost invariant = { λ index. IsIndex index.patterns.items index.rules.items index.table index.general };
 }
 
 impl<'a> NameIndex<'a> {
@@ -59,13 +60,18 @@ impl<'a> NameIndex<'a> {
 
     /// Whether most rules are no text and no star before a text, so that a name that begins as they do is held against them all, and
     /// an index over them gains nothing.
-    pub fn is_mostly_general(&self) -> bool {
+    pub fn is_mostly_general(&self) -> bool
+        // It says whether these are more than half of the rules.
+        ensures { result ≡ is_mostly_general self.now.given }
+    {
         self.general > self.rules.len() / 2
     }
 }
 
 /// How many rules are no text and no star before a text.
-fn count_general(rules: &[IndexedRule<'_>]) -> usize {
+fn count_general(rules: &[IndexedRule<'_>]) -> usize
+    ensures { result ≡ length (filter (λ rule. not (of_texts rule.class)) rules.now) }
+{
     let mut count: usize = 0;
     for rule in rules {
         if let Class::Full = rule.class {

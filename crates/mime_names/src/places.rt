@@ -33,6 +33,8 @@ pub fn text_places(
     // At most two nodes are counted for each byte of the name, three, and one for each of these places.
     ensures steps { CountsPlaces (IsEndKey table.now.tree (spelled name.now)) table.now.keys.items
         meter.old.nodes (2 * length name.now + 3) meter.new.nodes }
+    // No byte is compared.
+    ensures bytes { meter.new.bytes ≡ meter.old.bytes }
 {
     push_endings(found, table, name, meter)?;
     in_order(found);
@@ -54,6 +56,8 @@ pub fn front_places(
     ensures near { OnOk result (AreSortedPlaces (Fronts name.now) table.now.keys.items found.new.items) }
     // Two nodes are counted at most, and one for each of these places.
     ensures steps { CountsPlaces (Fronts name.now) table.now.keys.items meter.old.nodes 2 meter.new.nodes }
+    // No byte is compared.
+    ensures bytes { meter.new.bytes ≡ meter.old.bytes }
 {
     push_fronts(found, table, name, meter)?;
     in_order(found);
@@ -75,6 +79,8 @@ pub fn all_places(
     // At most two nodes are counted for each byte of the name, five, and one for each of these places.
     ensures steps { CountsPlaces (λ key. IsEndKey table.now.tree (spelled name.now) key ⊎ Fronts name.now key)
         table.now.keys.items meter.old.nodes (2 * length name.now + 5) meter.new.nodes }
+    // No byte is compared.
+    ensures bytes { meter.new.bytes ≡ meter.old.bytes }
 {
     let mut found = SmallVec::new(alloc);
     push_endings(&mut found, table, name, meter)?;
@@ -106,6 +112,7 @@ fn push_fronts(
     ensures gathers { OnOk result (GathersPlaces (Fronts name.now) table.now.keys.items found.old.items found.new.items) }
     ensures adds { AddsPlaces (Fronts name.now) table.now.keys.items found.old.items found.new.items }
     ensures steps { meter.new.nodes + length found.old.items ≤ meter.old.nodes + length found.new.items + 2 }
+    ensures bytes { meter.new.bytes ≡ meter.old.bytes }
 {
     push_key(found, table, ANY_NAME, meter)?;
     push_front(found, table, name, meter)?;
@@ -123,6 +130,7 @@ fn push_front(
     ensures gathers { OnOk result (GathersPlaces (λ key. (key < 256) × Begins name.now key) table.now.keys.items found.old.items found.new.items) }
     ensures adds { AddsPlaces (λ key. (key < 256) × Begins name.now key) table.now.keys.items found.old.items found.new.items }
     ensures steps { meter.new.nodes + length found.old.items ≤ meter.old.nodes + length found.new.items + 1 }
+    ensures bytes { meter.new.bytes ≡ meter.old.bytes }
 {
     if name.len() == 0 {
         return Ok(());
@@ -145,6 +153,7 @@ fn push_key(
     ensures walks { OnOk result (Walks table.now.keys.items key found.old.items found.new.items) }
     ensures adds { AddsPlaces (λ other. other ≡ key) table.now.keys.items found.old.items found.new.items }
     ensures steps { meter.new.nodes + length found.old.items ≤ meter.old.nodes + length found.new.items + 1 }
+    ensures bytes { meter.new.bytes ≡ meter.old.bytes }
 {
     // Most nodes have no rule.
     if table.chains.lasts[key] == 0 {
@@ -175,6 +184,7 @@ fn push_endings(
         table.now.keys.items found.old.items found.new.items) }
     ensures adds { AddsPlaces (IsEndKey table.now.tree (spelled name.now)) table.now.keys.items found.old.items found.new.items }
     ensures steps { meter.new.nodes + length found.old.items ≤ meter.old.nodes + length found.new.items + 2 * length name.now + 3 }
+    ensures bytes { meter.new.bytes ≡ meter.old.bytes }
 {
     push_key(found, table, FIRST_NODE, meter)?;
     let mut at = 0;

@@ -7,9 +7,9 @@ ghost use Rattle.std.specs.List.Sorted.{IsNonDecreasing};
 ghost use Rattle.mime_base.specs.Falling.{falling};
 ghost use Rattle.mime_base.specs.Kept.{candidate_rules, kept_rules, of_greatest};
 ghost use Rattle.mime_names.specs.Chains.{AreBelow};
-ghost use Rattle.mime_names.specs.Near.{near_nodes, near_rules};
-ghost use Rattle.mime_names.specs.Places.{AreNear};
-ghost use Rattle.mime_names.specs.Rules.{IsIndexedRule, hits_of, own_parts, parts_of};
+ghost use Rattle.mime_names.specs.Near.{longest, near_bytes, near_nodes, near_rules, rule_bytes};
+ghost use Rattle.mime_names.specs.Places.{AreNear, ComparesPlaces, is_text_at};
+ghost use Rattle.mime_names.specs.Rules.{IsIndexedRule, hits_of, own_parts, parts_of, plain};
 ghost use Rattle.mime_names.specs.declared.indexed_rule.IndexedRule as spec;
 
 use crate::index::NameIndex;
@@ -47,6 +47,9 @@ pub fn ranked_rules<'b, 'a>(
     ensures own_kept { IfOk result (λ found. found.kept ≡ length (kept_rules index.now.own name.now)) }
     // Three nodes are counted for each byte of the name, six, and one for each rule near it, and no more.
     ensures near { meter.new.nodes ≤ meter.old.nodes + near_nodes (length name.now) (near_rules name.now index.now.given) }
+    // No more bytes are compared than the name's length, the longest pattern and the rules near the name allow.
+    ensures bytes { meter.new.bytes ≤ meter.old.bytes
+        + near_bytes (length name.now) (longest index.now.given) (near_rules name.now index.now.given) }
 {
     let places = all_places(alloc, &index.table, name, meter)?;
     let found = matching_rules(alloc, &index.patterns, &index.rules, &places, name, meter)?;
@@ -70,6 +73,8 @@ fn matching_rules<'b, 'a>(
     ensures found { (part : spec.IndexedRule → Bool) → AreNear patterns.now part rules.now name.now places.now → IfOk result (λ found.
         map (λ rule. rule.now) found.items ≡ hits_of patterns.now part rules.now name.now) }
     ensures nodes { meter.new.nodes ≡ meter.old.nodes }
+    ensures bytes { ComparesPlaces (is_text_at patterns.now rules.now) places.now (length name.now)
+        (rule_bytes (length name.now) (longest (map (plain patterns.now) rules.now))) meter.old.bytes meter.new.bytes }
 {
     let mut found = Vec::new(alloc);
     let mut from = 0;

@@ -26,6 +26,7 @@ loop-left-init c =
     let ends = EndsFrom tree (spelled name) (length name) in
     record {
       steps = omega (arith, c.in_ok-push_key.ensures.steps);
+      bytes = c.in_ok-push_key.ensures.bytes;
       within = omega arith;
       node = c.requires.is_tree.some;
       leads = is_at-end tree name;
@@ -55,6 +56,7 @@ loop-left-preserved c =
     record {
       steps =
           omega (arith, here, before.steps, c.in_ok-push_key-2.ensures.steps, ap (λ (m : Meter). m.nodes) c.add_node.ensures.added);
+      bytes = omega (arith, c.in_ok-push_key-2.ensures.bytes, ap (λ (m : Meter). m.bytes) c.add_node.ensures.added, before.bytes);
       within = omega (arith, before.within);
       node = c.next_of-at.ensures.within;
       leads = after;

@@ -1,13 +1,23 @@
-use Rattle.std.proofs.Common.{◌≡◌, ◌<◌, ◌∷◌, ◌++◌, [], Bool, true, false, length, get_or, map, take, take_all, sym, ap, ◌∙◌, arith}
+use Rattle.std.proofs.Common.{◌≡◌, ◌<◌, ◌∷◌, ◌++◌, [], Bool, true, false, length, get_or, map, take, take_all, refl, sym, ap, ◌∙◌, arith, rules}
 use Rattle.std.proofs.lemmas.List.{map-append}
 use Rattle.std.proofs.lemmas.List.Elements.{Contains-get_or}
 use denote.Bor.{Bor}
 use Rattle.mime_names.specs.Places.{AreNear}
 use Rattle.mime_names.specs.Rules.{hits_of, is_match}
 use Rattle.mime_names.specs.declared.indexed_rule.IndexedRule.{IndexedRule}
+use Rattle.mime_names.proofs.ByteLemmas.{compares-none, compares-rule}
 use Rattle.mime_names.proofs.NearLemmas.{hit_more, miss_more, passed}
 use Rattle.mime_names.proofs.ranked.matching_rules.Goals as goal
 use Rattle.mime_names.proofs.ranked.matching_rules.Goals.{then-from-place, then-is_match+in_ok-push, else-is_match, else-from-place}
+
+pub loop-near-init : goal.loop-near-init
+loop-near-init c = record {
+  found = search rules;
+  within = omega arith;
+  past = λ j less. absurd (omega (arith, less));
+  nodes = refl;
+  bytes = compares-none _ _ _ _ _;
+}
 
 pub loop-near-preserved : goal.loop-near-preserved
 loop-near-preserved c =
@@ -45,12 +55,17 @@ loop-near-preserved c =
             within = omega (arith, w.from-is, low);
             past = λ j less. omega (arith, w.from-is, c.requires.rise j i 0 (omega (arith, less)) inside);
             nodes = rw w.meter-is (w.is_match.ensures.nodes ∙ before.nodes);
+            bytes = rw (w.from-is, w.meter-is)
+                (compares-rule patterns rules c.requires.own name place rule low w.rule_at-rule.ensures places c.args.meter.now.bytes
+                c.loop-near.from c.loop-near.meter.bytes w.is_match.new.meter.bytes w.if-from-place.true (Contains-get_or places i 0 inside)
+                before.bytes w.is_match.ensures.bytes w.is_match.ensures.text_bytes);
           })
       | else-from-place w ↦ record {
         found = λ part near. rw (w.from-is, w.found-is) (before.found part near);
         within = rw w.from-is before.within;
         past = λ j less. omega (arith, w.from-is, c.requires.rise j i 0 (omega (arith, less)) inside, w.if-from-place.false);
         nodes = rw w.meter-is before.nodes;
+        bytes = rw (w.from-is, w.meter-is) before.bytes;
       }
     ]
 
@@ -66,3 +81,16 @@ returns-clause-found c = λ part near.
     (λ j order within. absurd (omega (arith, order, within, c.loop-near-test.false))) before.within (omega arith))
     ∙ ap (λ rs. hits_of patterns part rs name) (take_all (length rules) rules (omega arith)) in
     before.found part near ∙ all
+
+pub returns-clause-bytes : goal.returns-clause-bytes
+returns-clause-bytes c = c.loop-near.invariant.bytes.so_far
+
+pub returns-in_err-push-clause-bytes : goal.returns-in_err-push-clause-bytes
+returns-in_err-push-clause-bytes c =
+    let places = c.args.places.now in
+    let i = c.loop-near.near in
+    let inside : i < length places = omega (arith, c.loop-near-test.true) in
+    (compares-rule c.args.patterns.now c.args.rules.now c.requires.own c.args.name.now (get_or places i 0) c.rule_at-rule.result.now
+    (c.requires.below i inside) c.rule_at-rule.ensures places c.args.meter.now.bytes c.loop-near.from c.loop-near.meter.bytes
+    c.is_match.new.meter.bytes c.if-from-place.true (Contains-get_or places i 0 inside) c.loop-near.invariant.bytes
+    c.is_match.ensures.bytes c.is_match.ensures.text_bytes).so_far

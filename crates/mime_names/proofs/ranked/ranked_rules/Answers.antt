@@ -7,6 +7,7 @@ use Rattle.mime_names.specs.Rules.{every, hits_of, parts_of}
 use Rattle.mime_names.specs.declared.indexed_rule.IndexedRule.{IndexedRule}
 use Rattle.mime_names.proofs.RankedLemmas.{given-sorted, kept-given, kept-own, own-sorted}
 use Rattle.mime_names.proofs.TableLemmas.{near-every}
+use Rattle.mime_names.proofs.AskedLemmas.{every-bytes}
 use Rattle.mime_names.proofs.NodeLemmas.{every-near}
 use Rattle.mime_names.proofs.ranked.ranked_rules.Goals as goal
 use Rattle.mime_names.proofs.ranked.ranked_rules.Goals.{Joined-places-3}
@@ -76,3 +77,36 @@ returns-clause-near c =
     c.args.name.now c.args.index.now.given (ap (λ (index : PlainIndex). index.given) c.index.view_is)
     c.args.meter.now.nodes c.all_places.new.meter.nodes c.all_places.ensures.steps in
     omega (arith, before, c.matching_rules.ensures.nodes)
+
+pub returns-in_err-found-clause-bytes : goal.returns-in_err-found-clause-bytes
+returns-in_err-found-clause-bytes c =
+    let patterns = c.index.inside.patterns.items in
+    let rules = c.index.inside.rules.items in
+    let compared = rw (c.deref.ensures.value, c.deref-2.ensures.value, c.deref-3.ensures) at c.matching_rules.ensures.bytes in
+    let bytes =
+    every-bytes patterns rules c.index.inside.table c.index.invariant c.args.name.now c.args.index.now.given
+    (ap (λ (index : PlainIndex). index.given) c.index.view_is) c.in_ok-places.places.items c.in_ok-places.ensures.near
+    c.all_places.new.meter.bytes c.matching_rules.new.meter.bytes compared in
+    omega (arith, bytes, c.all_places.ensures.bytes)
+
+pub returns-in_err-rules-clause-bytes : goal.returns-in_err-rules-clause-bytes
+returns-in_err-rules-clause-bytes c =
+    let patterns = c.index.inside.patterns.items in
+    let rules = c.index.inside.rules.items in
+    let compared = rw (c.deref.ensures.value, c.deref-2.ensures.value, c.deref-3.ensures) at c.matching_rules.ensures.bytes in
+    let bytes =
+    every-bytes patterns rules c.index.inside.table c.index.invariant c.args.name.now c.args.index.now.given
+    (ap (λ (index : PlainIndex). index.given) c.index.view_is) c.in_ok-places.places.items c.in_ok-places.ensures.near
+    c.all_places.new.meter.bytes c.matching_rules.new.meter.bytes compared in
+    omega (arith, bytes, c.all_places.ensures.bytes)
+
+pub returns-clause-bytes : goal.returns-clause-bytes
+returns-clause-bytes c =
+    let patterns = c.index.inside.patterns.items in
+    let rules = c.index.inside.rules.items in
+    let compared = rw (c.deref.ensures.value, c.deref-2.ensures.value, c.deref-3.ensures) at c.matching_rules.ensures.bytes in
+    let bytes =
+    every-bytes patterns rules c.index.inside.table c.index.invariant c.args.name.now c.args.index.now.given
+    (ap (λ (index : PlainIndex). index.given) c.index.view_is) c.in_ok-places.places.items c.in_ok-places.ensures.near
+    c.all_places.new.meter.bytes c.matching_rules.new.meter.bytes compared in
+    omega (arith, bytes, c.all_places.ensures.bytes)
