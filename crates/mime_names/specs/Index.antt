@@ -36,6 +36,10 @@ abbrev pub texts_of : List (Bor (List ℕ)) → List (List ℕ)
 texts_of kinds = map (λ kind. kind.now) kinds
 
 -- the types that are kept, one of which is held in place
+abbrev pub held_kinds : KeptTypes → List (Bor (List ℕ))
+held_kinds (One kind) = kind ∷ []
+held_kinds (Others kinds) = kinds.items
+
+-- their texts
 abbrev pub held_types : KeptTypes → List (List ℕ)
-held_types (One kind) = kind.now ∷ []
-held_types (Others kinds) = texts_of kinds.items
+held_types types = texts_of (held_kinds types)

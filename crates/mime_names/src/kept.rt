@@ -1,23 +1,20 @@
 //! The rules that are kept of those that match a name.
 
-ghost use Rattle.std.specs.Prelude.{◌≡◌, ◌+◌, ◌<◌, ◌≤◌, Bool, filter, length, map, IfOk};
+ghost use Rattle.std.specs.Prelude.{◌≡◌, ◌+◌, ◌<◌, ◌≤◌, [], false, true, filter, length, map, IfOk};
 ghost use Rattle.std.specs.List.{All};
-ghost use Rattle.std.specs.List.Sorted.{IsNonDecreasing};
 ghost use Rattle.mime_base.specs.Kept.{hits, kept_rules, of_greatest, rank_of_rule};
-ghost use Rattle.mime_names.specs.Chains.{AreBelow};
-ghost use Rattle.mime_names.specs.Index.{held_types, texts_of};
+ghost use Rattle.mime_names.specs.Index.{held_kinds, held_types, texts_of};
 ghost use Rattle.mime_names.specs.Keys.{Fronts, IsTableOf};
 ghost use Rattle.mime_names.specs.Near.{near_nodes, near_rules, near_texts};
-ghost use Rattle.mime_names.specs.Places.{AreNear, CountsPlaces};
+ghost use Rattle.mime_names.specs.Places.{CountsPlaces};
 ghost use Rattle.mime_names.specs.Rules.{IsIndexedRule, hits_of, is_text_rule, others, plain};
-ghost use Rattle.mime_names.specs.declared.indexed_rule.IndexedRule as spec;
 
 use crate::index::NameIndex;
-use crate::indexed_rule::{IndexedRule, is_match, rule_at};
+use crate::indexed_rule::IndexedRule;
 use crate::keys::KeyTable;
-use crate::leader::{Leading, leading_kind};
+use crate::leading::leading_types;
 use crate::places::{front_places, text_places};
-use mime_base::{Best, Meter, OutOfMemory};
+use mime_base::{Meter, OutOfMemory};
 use smallvec::SmallVec;
 use std::alloc::Global;
 
@@ -78,76 +75,58 @@ pub fn kept_types<'a>(
 {
     let mut texts = SmallVec::new(alloc);
     text_places(&mut texts, &index.table, name, meter)?;
-    match leading_kind(&index.patterns, &index.rules, &texts, name, meter) {
-        Leading::One(kind) => Ok(KeptTypes::One(kind)),
-        Leading::Several => {
-            let kinds = best_kinds(alloc, &index.patterns, &index.rules, &texts, name, meter)?;
-            Ok(KeptTypes::Others(kinds))
-        }
-        Leading::Nothing => {
-            let kinds = other_kinds(
-                alloc,
-                &index.patterns,
-                &index.rules,
-                &index.table,
-                name,
-                meter,
-            )?;
-            Ok(KeptTypes::Others(kinds))
-        }
+    let types = leading_types(
+        alloc,
+        &index.patterns,
+        &index.rules,
+        texts.as_mut_slice(),
+        name,
+        meter,
+    )?;
+    if is_none(&types) {
+        let others = other_types(
+            alloc,
+            &index.patterns,
+            &index.rules,
+            &index.table,
+            name,
+            meter,
+        )?;
+        return Ok(others);
+    }
+    Ok(types)
+}
+
+/// Whether there are no types.
+#[inline(always)]
+fn is_none(types: &KeptTypes<'_>) -> bool
+    ensures some { result ≡ false → 0 < length (held_kinds types.now) }
+    ensures none { result ≡ true → held_kinds types.now ≡ [] }
+{
+    match types {
+        KeptTypes::One(_) => false,
+        KeptTypes::Others(kinds) => kinds.is_empty(),
     }
 }
 
 /// The types of the rules of the greatest rank that match a name, of those that are no text and no star before a text.
 // Never inlined: most names don't come here.
 #[inline(never)]
-fn other_kinds<'a>(
+fn other_types<'a>(
     alloc: Global,
     patterns: &[u8],
     rules: &[IndexedRule<'a>],
     table: &KeyTable,
     name: &[u8],
     meter: &mut Meter,
-) -> Result<Vec<&'a [u8]>, OutOfMemory>
+) -> Result<KeptTypes<'a>, OutOfMemory>
     requires own { All (IsIndexedRule patterns.now) rules.now }
     requires keyed { IsTableOf table.now patterns.now rules.now }
-    ensures kept { IfOk result (λ kinds. kinds.items ≡ map (λ rule. rule.kind) (of_greatest (λ rule. rank_of_rule (plain patterns.now rule))
+    ensures kept { IfOk result (λ types. held_kinds types ≡ map (λ rule. rule.kind) (of_greatest (λ rule. rank_of_rule (plain patterns.now rule))
         (hits_of patterns.now (others patterns.now) rules.now name.now))) }
     ensures steps { CountsPlaces (Fronts name.now) table.now.keys.items meter.old.nodes 2 meter.new.nodes }
 {
     let mut fronts = SmallVec::new(alloc);
     front_places(&mut fronts, table, name, meter)?;
-    let kinds = best_kinds(alloc, patterns, rules, &fronts, name, meter)?;
-    Ok(kinds)
-}
-
-/// The types of the rules of the greatest rank, of those at some places that match a name.
-fn best_kinds<'a>(
-    alloc: Global,
-    patterns: &[u8],
-    rules: &[IndexedRule<'a>],
-    places: &[usize],
-    name: &[u8],
-    meter: &mut Meter,
-) -> Result<Vec<&'a [u8]>, OutOfMemory>
-    requires own { All (IsIndexedRule patterns.now) rules.now }
-    requires below { AreBelow (length rules.now) places.now }
-    requires rise { IsNonDecreasing places.now }
-    ensures kept { (part : spec.IndexedRule → Bool) → AreNear patterns.now part rules.now name.now places.now → IfOk result (λ kinds. kinds.items
-        ≡ map (λ rule. rule.kind) (of_greatest (λ rule. rank_of_rule (plain patterns.now rule)) (hits_of patterns.now part rules.now name.now))) }
-    ensures nodes { meter.new.nodes ≡ meter.old.nodes }
-{
-    let mut best = Best::new(alloc);
-    let mut from = 0;
-    for near in 0..places.len() {
-        let place = places[near];
-        if from <= place {
-            let rule = rule_at(rules, place);
-            if is_match(patterns, rule, name, meter) {
-                best.offer(rule.rank, rule.kind)?;
-            }
-            from = place + 1;
-        }
-    }
-    Ok(best.into_items())
+    leading_types(alloc, patterns, rules, fronts.as_mut_slice(), name, meter)
 }

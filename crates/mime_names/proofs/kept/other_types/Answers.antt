@@ -1,6 +1,6 @@
 use Rattle.mime_names.specs.Rules.{others}
 use Rattle.mime_names.proofs.TableLemmas.{near-others}
-use Rattle.mime_names.proofs.kept.other_kinds.Goals as goal
+use Rattle.mime_names.proofs.kept.other_types.Goals as goal
 
 pub returns-clause-kept : goal.returns-clause-kept
 returns-clause-kept c =
@@ -8,4 +8,4 @@ returns-clause-kept c =
     let rules = c.args.rules.now in
     let near = near-others c.args.table.now patterns rules c.requires.keyed c.requires.own c.args.name.now
     c.front_places.new.found.items c.in_ok-front_places.ensures.near in
-    (rw c.deref.ensures at (c.in_ok-kinds.ensures.kept (others patterns))) near
+    (rw c.as_mut_slice.ensures.value at (c.leading_types.ensures.kept (others patterns))) near
