@@ -1,5 +1,5 @@
 -- How many texts and how many other rules are compared for a name, and with how many bytes.
-use Rattle.std.proofs.Common.{◌≡◌, ◌≢◌, ◌⊎◌, ℕ, ◌+◌, ◌*◌, ◌<◌, ◌≤◌, Bool, false, not, ◌&&◌, List, length, get_or, sym, ap, subst, ◌∙◌, arith}
+use Rattle.std.proofs.Common.{◌≡◌, ◌≢◌, ◌⊎◌, ℕ, ◌+◌, ◌*◌, ◌<◌, ◌≤◌, Bool, false, not, ◌&&◌, List, [], length, get_or, sym, ap, subst, ◌∙◌, arith}
 use Rattle.std.specs.List.{AllPairs, Contains, filter}
 use Rattle.std.proofs.lemmas.Bool.{not-true}
 use Rattle.std.proofs.lemmas.List.{get_or-map, get_or_default}
@@ -10,19 +10,19 @@ use Rattle.mime_base.specs.declared.database.rule.GlobRule.{GlobRule}
 use Rattle.mime_names.specs.Chains.{AreBelow}
 use Rattle.mime_names.specs.Index.{IsIndex, rules_of_index}
 use Rattle.mime_names.specs.Keys.{Fronts, IsEndKey}
-use Rattle.mime_names.specs.Near.{longest, near_bytes, near_rule, near_rules, near_texts, rule_bytes}
-use Rattle.mime_names.specs.Places.{AreSortedPlaces, ComparesPlaces, is_text_at}
+use Rattle.mime_names.specs.Near.{near_rule, near_texts, rule_bytes}
+use Rattle.mime_names.specs.Places.{is_text_at}
 use Rattle.mime_names.specs.Rules.{IsIndexedRule, is_text_rule, of_texts, others, texts}
 use Rattle.mime_names.specs.Tree.{spelled}
 use Rattle.mime_names.specs.declared.indexed_rule.IndexedRule.{IndexedRule}
 use Rattle.mime_names.specs.declared.keys.KeyTable.{KeyTable}
 use Rattle.mime_names.proofs.CountLemmas.{count-fronts, count-places}
-use Rattle.mime_names.proofs.DistinctLemmas.{filter-has}
+use Rattle.mime_names.proofs.DistinctLemmas.{distinct-le, filter-has}
 use Rattle.mime_names.proofs.NearLemmas.{some_rule}
-use Rattle.mime_names.proofs.NodeLemmas.{near-both, passing}
+use Rattle.mime_names.proofs.NodeLemmas.{passing}
 
 -- the bytes of texts and of other rules that are compared, by how many of them are near and how many nodes there are
-compared-le : (n each some rest near_text near_other near old new : ℕ) → n ≤ each → some ≤ n + 1 + near_text → rest ≤ near_other →
+pub compared-le : (n each some rest near_text near_other near old new : ℕ) → n ≤ each → some ≤ n + 1 + near_text → rest ≤ near_other →
     near_text + near_other ≡ near → new ≤ old + some * n + rest * each → new ≤ old + (near * each + (n + 1) * n)
 compared-le n each some rest near_text near_other near old new less few fewer sum bytes =
     let on_way : some * n ≤ (n + 1 + near_text) * n = mul-le-mul_right n few in
@@ -32,7 +32,7 @@ compared-le n each some rest near_text near_other near old new less few fewer su
     omega (arith, bytes, on_way, close, general, all)
 
 -- a name has no more bytes than a rule may compare with it
-name-le : (name pattern : ℕ) → name ≤ rule_bytes name pattern
+pub name-le : (name pattern : ℕ) → name ≤ rule_bytes name pattern
 name-le name pattern = omega arith
 
 module _ (patterns : List ℕ) (rules : List IndexedRule) (table : KeyTable) {general : ℕ} (is : IsIndex patterns rules table general) (name : List ℕ)
@@ -69,6 +69,17 @@ module _ (patterns : List ℕ) (rules : List IndexedRule) (table : KeyTable) {ge
         (λ p rule within here has. (let both = filter-has is_text asked p has in (sym (at p rule within here) ∙ both.1, (asks p both.0).1))) in
         omega (arith, places, passing patterns rules table is name all view (λ rule. is_text_rule rule && near_rule name rule))
 
+    -- the key of a text is one of a node
+    high : (p : ℕ) → Contains (of_kind is_text) p → 257 ≤ get_or table.keys.items p 0
+    high p has =
+        let both = filter-has is_text asked p has in
+        let within : p < length rules = omega (arith, (asks p both.0).0, is.keyed.keyed.many) in
+        let d : IndexedRule = some_rule rules (omega (arith, within)) in
+        let rule : IndexedRule = get_or rules p d in
+        let here : rule ≡ get_or rules p rule = get_or_default rules p d rule within in
+        let indexed : IsIndexedRule patterns rule = subst (IsIndexedRule patterns) (sym here) (is.own p rule within) in
+        (is.keyed.keyed.each p rule within here).texts (ap of_texts indexed.class ∙ sym (at p rule within here) ∙ both.1)
+
     -- the key of a rule that is no text is below those of nodes
     low : (p : ℕ) → Contains (of_kind is_other) p → get_or table.keys.items p 0 < 257
     low p has =
@@ -81,6 +92,18 @@ module _ (patterns : List ℕ) (rules : List IndexedRule) (table : KeyTable) {ge
         (is.keyed.keyed.each p rule within here).others
         (ap of_texts indexed.class ∙ sym (at p rule within here) ∙ not-true (is_text p) both.1)
 
+    -- where no key is one of a node, none is a text
+    pub no-texts : ((p : ℕ) → Contains asked p → get_or table.keys.items p 0 < 257) → length (of_kind is_text) ≤ 0
+    no-texts low_keys =
+        distinct-le (of_kind is_text) [] (AllPairs-filter (λ p q. p ≢ q) is_text asked once)
+        (λ p has. (let both = filter-has is_text asked p has in absurd (omega (arith, low_keys p both.0, high p has))))
+
+    -- where each is, all are
+    pub no-others : ((p : ℕ) → Contains asked p → 257 ≤ get_or table.keys.items p 0) → length (of_kind is_other) ≤ 0
+    no-others high_keys =
+        distinct-le (of_kind is_other) [] (AllPairs-filter (λ p q. p ≢ q) is_other asked once)
+        (λ p has. (let both = filter-has is_other asked p has in absurd (omega (arith, high_keys p both.0, low p has))))
+
     -- the others are near the name
     pub others-asked : length (of_kind is_other) ≤ length (filter (λ rule. not (is_text_rule rule) && near_rule name rule) all)
     others-asked =
@@ -92,30 +115,3 @@ module _ (patterns : List ℕ) (rules : List IndexedRule) (table : KeyTable) {ge
           (asks p both.0).1,
         ))) low in
         omega (arith, places, passing patterns rules table is name all view (λ rule. not (is_text_rule rule) && near_rule name rule))
-
-module _ (patterns : List ℕ) (rules : List IndexedRule) (table : KeyTable) {general : ℕ} (is : IsIndex patterns rules table general) (name : List ℕ)
-    (all : List GlobRule) (view : rules_of_index patterns rules ≡ all) where
-  -- rules at the places for whose keys a name asks compare no more bytes than those near it allow
-  pub every-bytes : (places : List ℕ) →
-      AreSortedPlaces (λ key. IsEndKey table.tree (spelled name) key ⊎ Fronts name key) table.keys.items places → (old new : ℕ) →
-      ComparesPlaces (is_text_at patterns rules) places (length name) (rule_bytes (length name) (longest (rules_of_index patterns rules))) old new →
-      new ≤ old + near_bytes (length name) (longest all) (near_rules name all)
-  every-bytes places sorted old new compared =
-      let long = longest all in
-      let bytes : new ≤ old + length (filter (is_text_at patterns rules) compared.asked) * length name
-      + length (filter (λ p. not (is_text_at patterns rules p)) compared.asked) * rule_bytes (length name) long =
-      subst (λ rs. new ≤ old + length (filter (is_text_at patterns rules) compared.asked) * length name
-      + length (filter (λ p. not (is_text_at patterns rules p)) compared.asked) * rule_bytes (length name) (longest rs)) view compared.bytes in
-      compared-le (length name) (rule_bytes (length name) long) _ _ (near_texts name all) _ (near_rules name all) old new
-      (name-le (length name) long)
-      (texts-asked patterns rules table is name all view compared.asked compared.once asks)
-      (others-asked patterns rules table is name all view compared.asked compared.once asks)
-      (near-both name all) bytes
-    where
-      asks : (p : ℕ) → Contains compared.asked p → (p < length table.keys.items)
-          × (IsEndKey table.tree (spelled name) (get_or table.keys.items p 0) ⊎ Fronts name (get_or table.keys.items p 0))
-      asks p has =
-          let there = compared.among p has in (
-            omega (arith, sorted.below there.0 there.1, get_or_default places there.0 p 0 there.1, there.2),
-            sorted.only p there,
-          )

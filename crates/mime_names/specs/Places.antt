@@ -36,6 +36,19 @@ pub record ComparesPlaces (is_text : ℕ → Bool) (places : List ℕ) (text oth
   -- No more bytes are counted.
   pub bytes : new ≤ old + length (filter is_text asked) * text + length (filter (λ p. not (is_text p)) asked) * other
 
+-- The same for rules whose keys pass.
+pub record ComparesKeys (is_text : ℕ → Bool) (Passes : ℕ → Type 0) (keys : List ℕ) (text other old new : ℕ) : Type 0 where
+  -- Where rules are compared.
+  pub asked : List ℕ
+  -- There is a rule.
+  pub below : (p : ℕ) → Contains asked p → p < length keys
+  -- Its key passes.
+  pub only : (p : ℕ) → Contains asked p → Passes (get_or keys p 0)
+  -- None is there twice.
+  pub once : AllPairs (λ p q. p ≢ q) asked
+  -- No more bytes are counted.
+  pub bytes : new ≤ old + length (filter is_text asked) * text + length (filter (λ p. not (is_text p)) asked) * other
+
 -- Places of rules of a part alone, in rising order, among them each that matches a name.
 pub record AreNear (patterns : List ℕ) (part : IndexedRule → Bool) (rules : List IndexedRule) (name places : List ℕ) : Type 0 where
   pub rise : IsNonDecreasing places

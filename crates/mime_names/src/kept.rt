@@ -5,8 +5,8 @@ ghost use Rattle.std.specs.List.{All};
 ghost use Rattle.mime_base.specs.Kept.{hits, kept_rules, of_greatest, rank_of_rule};
 ghost use Rattle.mime_names.specs.Index.{held_kinds, held_types, texts_of};
 ghost use Rattle.mime_names.specs.Keys.{Fronts, IsTableOf};
-ghost use Rattle.mime_names.specs.Near.{near_nodes, near_rules, near_texts};
-ghost use Rattle.mime_names.specs.Places.{CountsPlaces};
+ghost use Rattle.mime_names.specs.Near.{longest, near_bytes, near_nodes, near_rules, near_texts, rule_bytes, text_bytes};
+ghost use Rattle.mime_names.specs.Places.{ComparesKeys, CountsPlaces, is_text_at};
 ghost use Rattle.mime_names.specs.Rules.{IsIndexedRule, hits_of, is_text_rule, others, plain};
 
 use crate::index::NameIndex;
@@ -44,6 +44,12 @@ pub fn kept_kinds<'a>(
     // For a name that a text matches, or a star and a text, no other rules count.
     ensures texts { 0 < length (filter is_text_rule (hits index.now.given name.now)) →
         meter.new.nodes ≤ meter.old.nodes + near_nodes (length name.now) (near_texts name.now index.now.given) }
+    // No more bytes are compared than the name's length, the longest pattern and the rules near the name allow.
+    ensures bytes { meter.new.bytes ≤ meter.old.bytes
+        + near_bytes (length name.now) (longest index.now.given) (near_rules name.now index.now.given) }
+    // Where a text matches, or a star and a text, only such are compared, each with no more bytes than the name has.
+    ensures text_bytes { 0 < length (filter is_text_rule (hits index.now.given name.now)) →
+        meter.new.bytes ≤ meter.old.bytes + text_bytes (length name.now) (near_texts name.now index.now.given) }
 {
     match kept_types(alloc, index, name, meter)? {
         KeptTypes::One(kind) => {
@@ -72,6 +78,12 @@ pub fn kept_types<'a>(
     // For a name that a text matches, or a star and a text, no other rules count.
     ensures texts { 0 < length (filter is_text_rule (hits index.now.given name.now)) →
         meter.new.nodes ≤ meter.old.nodes + near_nodes (length name.now) (near_texts name.now index.now.given) }
+    // No more bytes are compared than the name's length, the longest pattern and the rules near the name allow.
+    ensures bytes { meter.new.bytes ≤ meter.old.bytes
+        + near_bytes (length name.now) (longest index.now.given) (near_rules name.now index.now.given) }
+    // Where a text matches, or a star and a text, only such are compared, each with no more bytes than the name has.
+    ensures text_bytes { 0 < length (filter is_text_rule (hits index.now.given name.now)) →
+        meter.new.bytes ≤ meter.old.bytes + text_bytes (length name.now) (near_texts name.now index.now.given) }
 {
     let mut texts = SmallVec::new(alloc);
     text_places(&mut texts, &index.table, name, meter)?;
@@ -125,6 +137,8 @@ fn other_types<'a>(
     ensures kept { IfOk result (λ types. held_kinds types ≡ map (λ rule. rule.kind) (of_greatest (λ rule. rank_of_rule (plain patterns.now rule))
         (hits_of patterns.now (others patterns.now) rules.now name.now))) }
     ensures steps { CountsPlaces (Fronts name.now) table.now.keys.items meter.old.nodes 2 meter.new.nodes }
+    ensures bytes { ComparesKeys (is_text_at patterns.now rules.now) (Fronts name.now) table.now.keys.items (length name.now)
+        (rule_bytes (length name.now) (longest (map (plain patterns.now) rules.now))) meter.old.bytes meter.new.bytes }
 {
     let mut fronts = SmallVec::new(alloc);
     front_places(&mut fronts, table, name, meter)?;

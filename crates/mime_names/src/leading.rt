@@ -10,7 +10,8 @@ ghost use Rattle.mime_base.specs.Kept.{of_greatest, rank_of_rule};
 ghost use Rattle.mime_names.specs.Chains.{AreBelow};
 ghost use Rattle.mime_names.specs.Index.{held_kinds};
 ghost use Rattle.mime_names.specs.Leading.{IsLeader, kinds_at};
-ghost use Rattle.mime_names.specs.Places.{AreNear};
+ghost use Rattle.mime_names.specs.Near.{longest, rule_bytes};
+ghost use Rattle.mime_names.specs.Places.{AreNear, ComparesPlaces, is_text_at};
 ghost use Rattle.mime_names.specs.Rules.{IsIndexedRule, hits_of, plain};
 ghost use Rattle.mime_names.specs.declared.indexed_rule.IndexedRule as spec;
 
@@ -48,6 +49,9 @@ pub fn leading_types<'a>(
         ≡ map (λ rule. rule.kind) (of_greatest (λ rule. rank_of_rule (plain patterns.now rule)) (hits_of patterns.now part rules.now name.now))) }
     // It counts no node.
     ensures nodes { meter.new.nodes ≡ meter.old.nodes }
+    // The rule at each place is compared once at most.
+    ensures bytes { ComparesPlaces (is_text_at patterns.now rules.now) places.old (length name.now)
+        (rule_bytes (length name.now) (longest (map (plain patterns.now) rules.now))) meter.old.bytes meter.new.bytes }
 {
     let count = move_leading(patterns, rules, places, name, meter);
     types_at(alloc, rules, &places[..count])
@@ -70,6 +74,8 @@ fn move_leading(
     ensures below { AreBelow (length rules.now) places.new }
     ensures within { result ≤ length places.new }
     ensures nodes { meter.new.nodes ≡ meter.old.nodes }
+    ensures bytes { ComparesPlaces (is_text_at patterns.now rules.now) places.old (length name.now)
+        (rule_bytes (length name.now) (longest (map (plain patterns.now) rules.now))) meter.old.bytes meter.new.bytes }
 {
     let mut leader = Leader { rank: 0, count: 0 };
     let mut from = 0;

@@ -1,15 +1,29 @@
-use Rattle.std.proofs.Common.{◌≡◌, Contains, ◌<◌, ◌∷◌, ◌++◌, [], Bool, true, false, length, get_or, map, subst, take, take_all, sym, ap, ◌∙◌, arith}
+use Rattle.std.proofs.Common.{◌≡◌, Contains, ◌<◌, ◌∷◌, ◌++◌, [], Bool, true, false, length, get_or, map, subst, take, take_all, refl, sym, ap, ◌∙◌, arith}
 use Rattle.std.proofs.lemmas.List.Elements.{Contains-get_or}
 use Rattle.mime_base.specs.Kept.{best}
 use Rattle.mime_names.specs.Leading.{IsLeader}
 use Rattle.mime_names.specs.Places.{AreNear}
 use Rattle.mime_names.specs.Rules.{IsIndexedRule, hits_of, is_match, offer_of}
 use Rattle.mime_names.specs.declared.indexed_rule.IndexedRule.{IndexedRule}
+use Rattle.mime_names.proofs.ByteLemmas.{compares-none, compares-rule}
 use Rattle.mime_names.proofs.KeptLemmas.{best-kinds, offers-hit}
 use Rattle.mime_names.proofs.LeadingLemmas.{leader-kinds}
 use Rattle.mime_names.proofs.NearLemmas.{miss_more, passed}
 use Rattle.mime_names.proofs.leading.move_leading.Goals as goal
 use Rattle.mime_names.proofs.leading.move_leading.Goals.{then-from-place, then-is_match, else-is_match, else-from-place}
+
+pub loop-near-init : goal.loop-near-init
+loop-near-init c = record {
+  leads = λ part near. record { best = refl; none = λ none. refl };
+  count = omega arith;
+  long = refl;
+  rest = λ j past. refl;
+  low = c.requires.below;
+  within = omega arith;
+  past = λ j less. absurd (omega (arith, less));
+  nodes = refl;
+  bytes = compares-none _ _ _ _ _;
+}
 
 pub loop-near-preserved : goal.loop-near-preserved
 loop-near-preserved c =
@@ -68,6 +82,11 @@ loop-near-preserved c =
             within = omega (arith, w.from-is, low);
             past = λ j less. omega (arith, w.from-is, here, c.requires.rise j i 0 (omega (arith, less)) inside);
             nodes = rw w.meter-is (w.is_match.ensures.nodes ∙ before.nodes);
+            bytes = rw (w.from-is, w.meter-is)
+                (compares-rule patterns rules c.requires.own name place rule low w.rule_at-rule.ensures places c.args.meter.now.bytes
+                c.loop-near.from c.loop-near.meter.bytes w.is_match.new.meter.bytes w.if-from-place.true
+                (subst (λ n. Contains places n) (sym here) (Contains-get_or places i 0 inside))
+                before.bytes w.is_match.ensures.bytes w.is_match.ensures.text_bytes);
           })
       | else-from-place w ↦ record {
         leads = λ part near. rw (w.from-is, w.leader-is, w.places-is) (before.leads part near);
@@ -78,6 +97,7 @@ loop-near-preserved c =
         within = rw w.from-is before.within;
         past = λ j less. omega (arith, w.from-is, here, c.requires.rise j i 0 (omega (arith, less)) inside, w.if-from-place.false);
         nodes = rw w.meter-is before.nodes;
+        bytes = rw (w.from-is, w.meter-is) before.bytes;
       }
     ]
 
@@ -95,3 +115,6 @@ returns-clause-leading c = λ part near.
     leader-kinds rules c.loop-near.places c.loop-near.leader (map (offer_of patterns) (hits_of patterns part (take c.loop-near.from rules) name)) (before.leads part near)
     ∙ ap (λ found. map (λ offer. offer.1) (best (map (offer_of patterns) found))) all
     ∙ best-kinds patterns (hits_of patterns part rules name)
+
+pub returns-clause-bytes : goal.returns-clause-bytes
+returns-clause-bytes c = c.loop-near.invariant.bytes.so_far

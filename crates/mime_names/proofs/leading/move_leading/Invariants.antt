@@ -1,9 +1,11 @@
 use Rattle.std.proofs.Common.{◌≡◌, ℕ, ◌≤◌, ◌<◌, Bool, length, get_or, map, take}
 use Rattle.mime_names.specs.Chains.{AreBelow}
 use Rattle.mime_names.specs.Leading.{IsLeader}
-use Rattle.mime_names.specs.Places.{AreNear}
-use Rattle.mime_names.specs.Rules.{hits_of, offer_of}
+use Rattle.mime_names.specs.Near.{longest, rule_bytes}
+use Rattle.mime_names.specs.Places.{AreNear, is_text_at}
+use Rattle.mime_names.specs.Rules.{hits_of, offer_of, plain}
 use Rattle.mime_names.specs.declared.indexed_rule.IndexedRule.{IndexedRule}
+use Rattle.mime_names.proofs.ByteLemmas.{ComparesBefore}
 use Rattle.mime_names.proofs.leading.move_leading.Given as goal
 
 abbrev pub invariant-loop-near : goal.invariant-loop-near
@@ -17,4 +19,6 @@ invariant-loop-near l = record {
   within : l.from ≤ length l.rules;
   past : (j : ℕ) → j < l.near → get_or l.fn.places j 0 < l.from;
   nodes : l.meter.nodes ≡ l.fn.meter.nodes;
+  bytes : ComparesBefore (is_text_at l.patterns l.rules) l.fn.places (length l.name)
+      (rule_bytes (length l.name) (longest (map (plain l.patterns) l.rules))) l.from l.fn.meter.bytes l.meter.bytes;
 }

@@ -1,4 +1,4 @@
-use Rattle.std.proofs.Common.{◌≡◌, length, map, ap, ◌∙◌, arith}
+use Rattle.std.proofs.Common.{◌≡◌, ◌⊎◌, length, map, ap, ◌∙◌, arith}
 use denote.Bor.{Bor}
 use Rattle.mime_base.specs.Kept.{candidate_rules, kept_rules}
 use Rattle.mime_base.specs.declared.database.rule.GlobRule.{GlobRule}
@@ -7,7 +7,10 @@ use Rattle.mime_names.specs.Rules.{every, hits_of, parts_of}
 use Rattle.mime_names.specs.declared.indexed_rule.IndexedRule.{IndexedRule}
 use Rattle.mime_names.proofs.RankedLemmas.{given-sorted, kept-given, kept-own, own-sorted}
 use Rattle.mime_names.proofs.TableLemmas.{near-every}
-use Rattle.mime_names.proofs.AskedLemmas.{every-bytes}
+use Rattle.mime_names.specs.Keys.{Fronts, IsEndKey}
+use Rattle.mime_names.specs.Places.{is_text_at}
+use Rattle.mime_names.specs.Tree.{spelled}
+use Rattle.mime_names.proofs.KeyByteLemmas.{compares-keys, every-bytes}
 use Rattle.mime_names.proofs.NodeLemmas.{every-near}
 use Rattle.mime_names.proofs.ranked.ranked_rules.Goals as goal
 use Rattle.mime_names.proofs.ranked.ranked_rules.Goals.{Joined-places-3}
@@ -85,8 +88,10 @@ returns-in_err-found-clause-bytes c =
     let compared = rw (c.deref.ensures.value, c.deref-2.ensures.value, c.deref-3.ensures) at c.matching_rules.ensures.bytes in
     let bytes =
     every-bytes patterns rules c.index.inside.table c.index.invariant c.args.name.now c.args.index.now.given
-    (ap (λ (index : PlainIndex). index.given) c.index.view_is) c.in_ok-places.places.items c.in_ok-places.ensures.near
-    c.all_places.new.meter.bytes c.matching_rules.new.meter.bytes compared in
+    (ap (λ (index : PlainIndex). index.given) c.index.view_is) c.all_places.new.meter.bytes c.matching_rules.new.meter.bytes
+    (compares-keys (is_text_at patterns rules)
+    (λ key. IsEndKey c.index.inside.table.tree (spelled c.args.name.now) key ⊎ Fronts c.args.name.now key)
+    c.index.inside.table.keys.items c.in_ok-places.places.items _ _ _ _ c.in_ok-places.ensures.near compared) in
     omega (arith, bytes, c.all_places.ensures.bytes)
 
 pub returns-in_err-rules-clause-bytes : goal.returns-in_err-rules-clause-bytes
@@ -96,8 +101,10 @@ returns-in_err-rules-clause-bytes c =
     let compared = rw (c.deref.ensures.value, c.deref-2.ensures.value, c.deref-3.ensures) at c.matching_rules.ensures.bytes in
     let bytes =
     every-bytes patterns rules c.index.inside.table c.index.invariant c.args.name.now c.args.index.now.given
-    (ap (λ (index : PlainIndex). index.given) c.index.view_is) c.in_ok-places.places.items c.in_ok-places.ensures.near
-    c.all_places.new.meter.bytes c.matching_rules.new.meter.bytes compared in
+    (ap (λ (index : PlainIndex). index.given) c.index.view_is) c.all_places.new.meter.bytes c.matching_rules.new.meter.bytes
+    (compares-keys (is_text_at patterns rules)
+    (λ key. IsEndKey c.index.inside.table.tree (spelled c.args.name.now) key ⊎ Fronts c.args.name.now key)
+    c.index.inside.table.keys.items c.in_ok-places.places.items _ _ _ _ c.in_ok-places.ensures.near compared) in
     omega (arith, bytes, c.all_places.ensures.bytes)
 
 pub returns-clause-bytes : goal.returns-clause-bytes
@@ -107,6 +114,8 @@ returns-clause-bytes c =
     let compared = rw (c.deref.ensures.value, c.deref-2.ensures.value, c.deref-3.ensures) at c.matching_rules.ensures.bytes in
     let bytes =
     every-bytes patterns rules c.index.inside.table c.index.invariant c.args.name.now c.args.index.now.given
-    (ap (λ (index : PlainIndex). index.given) c.index.view_is) c.in_ok-places.places.items c.in_ok-places.ensures.near
-    c.all_places.new.meter.bytes c.matching_rules.new.meter.bytes compared in
+    (ap (λ (index : PlainIndex). index.given) c.index.view_is) c.all_places.new.meter.bytes c.matching_rules.new.meter.bytes
+    (compares-keys (is_text_at patterns rules)
+    (λ key. IsEndKey c.index.inside.table.tree (spelled c.args.name.now) key ⊎ Fronts c.args.name.now key)
+    c.index.inside.table.keys.items c.in_ok-places.places.items _ _ _ _ c.in_ok-places.ensures.near compared) in
     omega (arith, bytes, c.all_places.ensures.bytes)
