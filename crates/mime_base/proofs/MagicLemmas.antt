@@ -11,6 +11,7 @@ pub mod StoppedPairs
 pub mod Skipping
 pub mod SecondBytes
 pub mod MostCompared
+pub mod WindowBytes
 pub mod NotedPlaces
 pub mod StatedLines
 pub mod Fronts

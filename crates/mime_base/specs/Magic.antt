@@ -8,6 +8,7 @@ pub mod Ranges
 pub mod Pairs
 pub mod Places
 pub mod Textual
+pub mod WindowBytes
 use Rattle.std.specs.Prelude.{ℕ, zero, suc, ◌+◌, ◌%◌, Bool, true, false, ◌&&◌, ◌||◌, ◌==◌, nat_lt, List, [], ◌∷◌, map}
 use Rattle.std.specs.Prelude.{length, Option, Some, None}
 use Rattle.std.specs.List.{list_all}

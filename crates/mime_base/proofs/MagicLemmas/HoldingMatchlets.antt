@@ -30,7 +30,7 @@ module _ (content : List ℕ) (host : Host) where
       ∙ some_holds-line content host (plain_matchlet m) (forest_of (plain_matchlets (drop (i + 1) lines)))
 
   -- of the code's matchlet the children
-  children_of : (m : Matchlet) → (plain_matchlet m).children ≡ forest_of (plain_matchlets (out-Matchlet m).children.items)
+  pub children_of : (m : Matchlet) → (plain_matchlet m).children ≡ forest_of (plain_matchlets (out-Matchlet m).children.items)
   children_of m = ap (λ (p : PlainMatchlet). p.children) (plain_matchlet-out m)
 
   -- a matchlet without children that equals its value holds

@@ -49,5 +49,8 @@ fn line_extent(line: &Matchlet) -> u64
         (forest_extent (plain_matchlet line.now).children) }
 {
     let own = u64::from(line.start) + u64::from(line.range) + line.value.len() as u64;
+    if line.children.is_empty() {
+        return own;
+    }
     own.max(lines_extent(&line.children))
 }

@@ -2,8 +2,9 @@
 //!
 //! Windows of the content are compared in place, and nothing is allocated.
 
-ghost use Rattle.std.specs.Prelude.{◌≡◌, ◌≤◌};
+ghost use Rattle.std.specs.Prelude.{◌≡◌, ◌+◌, ◌≤◌, length};
 ghost use Rattle.mime_base.specs.Magic.Holds.{bytes_of_mask, equals_from, line_holds, some_holds};
+ghost use Rattle.mime_base.specs.Magic.WindowBytes.{forest_bytes, line_bytes, window_bytes};
 ghost use Rattle.mime_base.specs.Magic.{forest_of, mask_bytes, plain_matchlet, plain_matchlets};
 
 use crate::magic::host::Host;
@@ -15,7 +16,7 @@ use crate::meter::Meter;
 /// some child holds if it has any.
 ///
 /// On a little-endian host each group of `word` bytes of value and mask is reversed first. It adds
-/// the bytes that were compared, with no promised bound, and no node.
+/// the bytes that were compared, and no node.
 #[cycle(holding)]
 pub fn line_matches(line: &Matchlet, content: &[u8], host: Host, meter: &mut Meter) -> bool
     // At some offset of the range the window equals the value under the mask; some child holds, if there is one.
@@ -24,6 +25,8 @@ pub fn line_matches(line: &Matchlet, content: &[u8], host: Host, meter: &mut Met
     ensures nodes { meter.new.nodes ≡ meter.old.nodes }
     // The count of bytes never falls, since it stops at the greatest number.
     ensures rises { meter.old.bytes ≤ meter.new.bytes }
+    // It and each line below it compares at most the bytes of its windows that lie in the content.
+    ensures bytes { meter.new.bytes ≤ meter.old.bytes + line_bytes (length content.now) (plain_matchlet line.now) }
 {
     if !equals_in_range(line, content, host, meter) {
         return false;
@@ -40,6 +43,8 @@ pub fn some_line_matches(lines: &[Matchlet], content: &[u8], host: Host, meter: 
     ensures nodes { meter.new.nodes ≡ meter.old.nodes }
     // The count of bytes never falls, since it stops at the greatest number.
     ensures rises { meter.old.bytes ≤ meter.new.bytes }
+    // Each of them and of their children compares at most the bytes of its windows that lie in the content.
+    ensures bytes { meter.new.bytes ≤ meter.old.bytes + forest_bytes (length content.now) (forest_of (plain_matchlets lines.now)) }
 {
     for line in lines {
         if line_matches(line, content, host, meter) {
@@ -55,6 +60,7 @@ fn equals_in_range(line: &Matchlet, content: &[u8], host: Host, meter: &mut Mete
         (plain_matchlet line.now).own.start (plain_matchlet line.now).own.range }
     ensures nodes { meter.new.nodes ≡ meter.old.nodes }
     ensures rises { meter.old.bytes ≤ meter.new.bytes }
+    ensures bytes { meter.new.bytes ≤ meter.old.bytes + window_bytes (length content.now) (plain_matchlet line.now).own }
 {
     value_in_range(
         &line.value,

@@ -1,11 +1,13 @@
-use Rattle.std.proofs.Common.{◌≡◌, ◌+◌, ◌||◌, sym, ap, ◌∙◌, arith, drop, vec_len}
+use Rattle.std.proofs.Common.{◌≡◌, ◌+◌, ◌||◌, length, sym, ap, ◌∙◌, arith, drop, vec_len}
 use Rattle.std.proofs.lemmas.Bool.{eqb-false, eqb-true, or_left}
 use Rattle.std.proofs.lemmas.List.{drop_all}
 use Rattle.mime_base.specs.Magic.Holds.{some_holds}
+use Rattle.mime_base.specs.Magic.WindowBytes.{forest_bytes}
 use Rattle.mime_base.specs.Magic.{forest_of, plain_matchlet, plain_matchlets}
 use Rattle.mime_base.specs.declared.magic.matchlet.Matchlet.TheViews.{out-Matchlet}
 use Rattle.mime_base.proofs.MagicLemmas.HoldingLines.{line_holds-differs, some_holds-none}
-use Rattle.mime_base.proofs.MagicLemmas.HoldingMatchlets.{line_holds-alone, line_holds-parent, some_holds-from}
+use Rattle.mime_base.proofs.MagicLemmas.HoldingMatchlets.{children_of, line_holds-alone, line_holds-parent, some_holds-from}
+use Rattle.mime_base.proofs.MagicLemmas.WindowBytes.{forest_bytes-from}
 use Rattle.mime_base.proofs.magic.holding.+holding.Goals as goal
 
 pub line_matches-returns-then-not-equals_in_range-clause-holds :
@@ -35,6 +37,28 @@ line_matches-returns-else-is_empty-clause-holds t c =
     ∙ sym (line_holds-parent c.args.content.now c.args.host c.args.line.now
     (sym c.equals_in_range.ensures.equal ∙ c.if-not-equals_in_range.false) (omega (arith, some, children.ok.0)))
 
+pub line_matches-returns-else-is_empty-clause-bytes :
+    goal.line_matches-returns-else-is_empty-clause-bytes
+line_matches-returns-else-is_empty-clause-bytes t c =
+    let size = length c.args.content.now in
+    omega (
+      arith,
+      c.equals_in_range.ensures.bytes,
+      c.some_line_matches.ensures.bytes,
+      ap (λ ms. forest_bytes size (forest_of (plain_matchlets ms))) c.deref.ensures.value,
+      ap (forest_bytes size) (children_of c.args.content.now c.args.host c.args.line.now),
+    )
+
+pub some_line_matches-returns-then-line_matches-clause-bytes :
+    goal.some_line_matches-returns-then-line_matches-clause-bytes
+some_line_matches-returns-then-line_matches-clause-bytes t c =
+    omega (
+      arith,
+      c.loop-line.invariant.bytes,
+      forest_bytes-from (length c.args.content.now) c.args.lines.now c.loop-line.line-index c.line-item.result c.loop-line-test.true
+          c.line-item.is,
+    )
+
 pub some_line_matches-returns-then-line_matches-clause-holds :
     goal.some_line_matches-returns-then-line_matches-clause-holds
 some_line_matches-returns-then-line_matches-clause-holds t c =
@@ -55,6 +79,12 @@ some_line_matches-loop-line-preserved t c =
           ∙ ap (λ b. b || rest) (sym c.line_matches.ensures.holds ∙ c.if-line_matches.false);
       nodes = c.line_matches.ensures.nodes ∙ c.loop-line.invariant.nodes;
       rises = omega arith;
+      bytes = omega (
+        arith,
+        c.loop-line.invariant.bytes,
+        forest_bytes-from (length c.args.content.now) c.args.lines.now c.loop-line.line-index c.line-item.result c.loop-line-test.true
+            c.line-item.is,
+      );
     }
 
 pub some_line_matches-returns-clause-holds : goal.some_line_matches-returns-clause-holds
