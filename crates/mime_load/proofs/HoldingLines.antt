@@ -1,10 +1,12 @@
 -- Lines of a cache that hold, in the steps of a pass over them.
-use Rattle.std.proofs.Common.{◌≡◌, ℕ, ◌<◌, ◌||◌, false, true, List, [], ◌∷◌, length, take, refl, ap, ◌∙◌, sym, arith, length-drop}
+use Rattle.std.proofs.Common.{◌≡◌, ℕ, ◌+◌, ◌<◌, ◌||◌, false, true, List, [], ◌∷◌, length, take, refl, ap, ◌∙◌, sym, arith, length-drop}
 use Rattle.std.proofs.lemmas.Bool.{or_left}
 use Rattle.mime_base.specs.Magic.Holds.{equals_from, is_bare, line_holds, some_holds}
+use Rattle.mime_base.specs.Magic.WindowBytes.{forest_bytes, line_bytes}
 use Rattle.mime_base.specs.Magic.{Forest}
 use Rattle.mime_base.specs.declared.magic.host.Host.{Host}
 use Rattle.mime_base.proofs.MagicLemmas.HoldingLines.{line_holds-differs, line_holds-equals, some_holds-line, some_holds-none}
+use Rattle.mime_base.proofs.MagicLemmas.WindowBytes.{forest_bytes-line}
 use Rattle.mime_load.specs.Lent.{behind_first, first_of, lent_forest, plain_line}
 use Rattle.mime_load.specs.declared.line.LentLine.{LentLine}
 use Rattle.mime_load.proofs.FlatLines.{lent_forest-line, lent_forest-none}
@@ -62,3 +64,12 @@ module _ (content : List ℕ) (host : Host) where
     first_holds-parent some =
         line_holds-equals content host (first_of (m ∷ lines)) equal
         ∙ ap (λ b. b || some_holds (lent_forest (take m.below lines)) content host) (is_bare-some (take m.below lines) some)
+
+module _ (size : ℕ) where
+  -- the first of some lines, and those behind it and those below it
+  pub forest_bytes-first : (lines : List LentLine) → 0 < length lines →
+      forest_bytes size (lent_forest lines) ≡ line_bytes size (first_of lines) + forest_bytes size (lent_forest (behind_first lines))
+  forest_bytes-first [] some = absurd (omega arith)
+  forest_bytes-first (m ∷ lines) some =
+      ap (forest_bytes size) (lent_forest-line m lines)
+      ∙ forest_bytes-line size (first_of (m ∷ lines)) (lent_forest (behind_first (m ∷ lines)))

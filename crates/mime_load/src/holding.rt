@@ -2,8 +2,9 @@
 //!
 //! Windows of the content are compared in place, and nothing is allocated.
 
-ghost use Rattle.std.specs.Prelude.{◌≡◌, ◌≤◌, drop, length};
+ghost use Rattle.std.specs.Prelude.{◌≡◌, ◌+◌, ◌≤◌, drop, length};
 ghost use Rattle.mime_base.specs.Magic.Holds.{bytes_of_mask, equals_from, line_holds, some_holds};
+ghost use Rattle.mime_base.specs.Magic.WindowBytes.{forest_bytes, line_bytes, window_bytes};
 ghost use Rattle.mime_load.specs.Lent.{behind_first, first_of, lent_forest, lent_mask, plain_line};
 
 use crate::line::LentLine;
@@ -13,7 +14,7 @@ use mime_base::{Host, Meter, value_in_range};
 /// value, and some child holds if it has any.
 ///
 /// On a little-endian host each group of `word` bytes of value and mask is reversed first. It adds
-/// the bytes that were compared, with no promised bound, and no node.
+/// the bytes that were compared, and no node.
 #[cycle(holding)]
 pub fn first_line_matches(
     lines: &[LentLine<'_>],
@@ -25,6 +26,8 @@ pub fn first_line_matches(
     ensures holds { result ≡ line_holds (first_of lines.now) content.now host }
     // No record is counted.
     ensures nodes { meter.new.nodes ≡ meter.old.nodes }
+    // It and each line below it compares at most the bytes of its windows that lie in the content.
+    ensures bytes { meter.new.bytes ≤ meter.old.bytes + line_bytes (length content.now) (first_of lines.now) }
 {
     let Some((line, after)) = lines.split_first() else {
         return false;
@@ -41,6 +44,7 @@ pub fn first_line_matches(
 fn some_line_matches(lines: &[LentLine<'_>], content: &[u8], host: Host, meter: &mut Meter) -> bool
     ensures holds { result ≡ some_holds (lent_forest lines.now) content.now host }
     ensures nodes { meter.new.nodes ≡ meter.old.nodes }
+    ensures bytes { meter.new.bytes ≤ meter.old.bytes + forest_bytes (length content.now) (lent_forest lines.now) }
 {
     let mut rest = lines;
     while !rest.is_empty() {
@@ -76,6 +80,7 @@ fn equals_in_range(line: &LentLine<'_>, content: &[u8], host: Host, meter: &mut 
     ensures equal { result ≡ equals_from (plain_line line.now) host content.now
         (plain_line line.now).start (plain_line line.now).range }
     ensures nodes { meter.new.nodes ≡ meter.old.nodes }
+    ensures bytes { meter.new.bytes ≤ meter.old.bytes + window_bytes (length content.now) (plain_line line.now) }
 {
     value_in_range(
         line.value,

@@ -1,10 +1,11 @@
-use Rattle.std.proofs.Common.{◌≡◌, ◌||◌, ◌∷◌, length, take, ap, sym, ◌∙◌, arith}
+use Rattle.std.proofs.Common.{◌≡◌, ◌<◌, ◌||◌, ◌∷◌, length, take, ap, sym, ◌∙◌, arith}
 use Rattle.std.proofs.lemmas.Bool.{eqb-false, eqb-true, or_left}
 use Rattle.std.proofs.lemmas.List.{take_min}
 use Rattle.mime_base.specs.Magic.Holds.{some_holds}
+use Rattle.mime_base.specs.Magic.WindowBytes.{forest_bytes, line_bytes}
 use Rattle.mime_base.proofs.MagicLemmas.HoldingLines.{line_holds-differs}
 use Rattle.mime_load.specs.Lent.{behind_first, first_of, lent_forest}
-use Rattle.mime_load.proofs.HoldingLines.{first_holds-alone, first_holds-parent, first_of-empty, length-behind_first, some_holds-first, some_holds-nothing}
+use Rattle.mime_load.proofs.HoldingLines.{first_holds-alone, first_holds-parent, first_of-empty, forest_bytes-first, length-behind_first, some_holds-first, some_holds-nothing}
 use Rattle.mime_load.proofs.holding.+holding.Goals as goal
 
 pub some_line_matches-returns-then-first_line_matches-clause-holds :
@@ -28,7 +29,52 @@ some_line_matches-loop-rest-preserved t c =
       short =
           omega (arith, c.loop-rest.invariant.short, length-behind_first rest (omega (arith, some)), ap length c.behind_first-rest.ensures);
       nodes = c.first_line_matches.ensures.nodes ∙ c.loop-rest.invariant.nodes;
+      bytes =
+          omega (
+            arith,
+            c.first_line_matches.ensures.bytes,
+            c.loop-rest.invariant.bytes,
+            forest_bytes-first (length c.args.content.now) rest (omega (arith, some)),
+            ap (λ ms. forest_bytes (length c.args.content.now) (lent_forest ms)) c.behind_first-rest.ensures,
+          );
     }
+
+pub some_line_matches-returns-then-first_line_matches-clause-bytes :
+    goal.some_line_matches-returns-then-first_line_matches-clause-bytes
+some_line_matches-returns-then-first_line_matches-clause-bytes t c =
+    let rest = c.loop-rest.rest.now in
+    let some : length rest ≡ 0 → ⊥ = eqb-false (length rest) 0 (sym c.is_empty.ensures ∙ c.loop-rest-test.true) in
+    omega (
+      arith,
+      c.first_line_matches.ensures.bytes,
+      c.loop-rest.invariant.bytes,
+      forest_bytes-first (length c.args.content.now) rest (omega (arith, some)),
+    )
+
+pub first_line_matches-returns-then-not-equals_in_range-clause-bytes : goal.first_line_matches-returns-then-not-equals_in_range-clause-bytes
+first_line_matches-returns-then-not-equals_in_range-clause-bytes t c =
+    let first = ap (λ ms. line_bytes (length c.args.content.now) (first_of ms)) c.in-Some.ensures.cases.0 in
+    omega (arith, c.equals_in_range.ensures.bytes, first)
+
+pub first_line_matches-returns-then-is_empty-clause-bytes : goal.first_line_matches-returns-then-is_empty-clause-bytes
+first_line_matches-returns-then-is_empty-clause-bytes t c =
+    let first = ap (λ ms. line_bytes (length c.args.content.now) (first_of ms)) c.in-Some.ensures.cases.0 in
+    omega (arith, c.equals_in_range.ensures.bytes, first)
+
+pub first_line_matches-returns-else-is_empty-clause-bytes : goal.first_line_matches-returns-else-is_empty-clause-bytes
+first_line_matches-returns-else-is_empty-clause-bytes t c =
+    let after = c.in-Some.after.now in
+    let size = length c.args.content.now in
+    let below : take c.min.result after ≡ take c.in-Some.line.now.below after =
+    ap (λ n. take n after) c.min.ensures ∙ take_min c.in-Some.line.now.below after in
+    let first = ap (λ ms. line_bytes size (first_of ms)) c.in-Some.ensures.cases.0 in
+    omega (
+      arith,
+      c.equals_in_range.ensures.bytes,
+      c.some_line_matches.ensures.bytes,
+      ap (λ ms. forest_bytes size (lent_forest ms)) below,
+      first,
+    )
 
 pub first_line_matches-returns-in_default-clause-holds : goal.first_line_matches-returns-in_default-clause-holds
 first_line_matches-returns-in_default-clause-holds t c =
