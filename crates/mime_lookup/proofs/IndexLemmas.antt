@@ -7,4 +7,6 @@ pub mod TopLines
 pub mod NotedPairs
 pub mod FoundLines
 pub mod Chains
+pub mod LineBytes
+pub mod Owners
 pub mod IndexNodes

@@ -1,7 +1,8 @@
 -- Heads of lines of magic: bytes that stand in each window that equals a line's value.
-use Rattle.std.specs.Prelude.{◌≡◌, ◌⊎◌, ℕ, ◌+◌, ◌<◌, ◌≤◌, false, List, [], ◌∷◌, length, get_or, Option, slice_index}
+use Rattle.std.specs.Prelude.{◌≡◌, ◌⊎◌, ℕ, ◌+◌, ◌-◌, ◌<◌, ◌≤◌, min, false, List, [], ◌∷◌, length, get_or, Option, slice_index}
 use Rattle.std.specs.List.{All}
 use Rattle.mime_base.specs.Magic.Holds.{bytes_of_mask, equals_from, line_holds}
+use Rattle.mime_base.specs.Magic.WindowBytes.{windows_in}
 use Rattle.mime_base.specs.Magic.{PlainLine, PlainMatchlet}
 use Rattle.mime_base.specs.declared.magic.host.Host.{Host}
 use Rattle.mime_lookup.specs.TopLines.{PlainTop}
@@ -41,14 +42,23 @@ RefusesContent head content = (length content < head.start + head.size) ⊎ Lack
 abbrev pub AreNoneShorter : ℕ → List LineHead → Type 0
 AreNoneShorter shortest heads = All (λ head. shortest ≤ head.start + head.size) heads
 
--- a content that a head refuses has no window that equals a line's value
-abbrev pub IsHead : LineHead → PlainLine → Type 0
-IsHead head own = (content : List ℕ) (host : Host) → RefusesContent head content
-    → equals_from own host content own.start own.range ≡ false
+-- how many windows of a head's range lie wholly in a content of that length
+abbrev pub head_windows : ℕ → LineHead → ℕ
+head_windows size head = min head.range (size + 1 - (head.start + head.size))
 
--- so the line doesn't hold
-abbrev pub IsHeadOf : LineHead → PlainMatchlet → Type 0
-IsHeadOf head line = (content : List ℕ) (host : Host) → RefusesContent head content → line_holds line content host ≡ false
+-- A head is one of a line, without those below it.
+pub record IsHead (head : LineHead) (own : PlainLine) : Type 0 where
+  -- A content that it refuses has no window that equals the line's value.
+  pub refuses : (content : List ℕ) (host : Host) → RefusesContent head content → equals_from own host content own.start own.range ≡ false
+  -- It has no more windows than the line.
+  pub within : (size : ℕ) → head_windows size head ≤ windows_in size own
+
+-- A head is one of a line.
+pub record IsHeadOf (head : LineHead) (line : PlainMatchlet) : Type 0 where
+  -- The line doesn't hold for a content that it refuses.
+  pub refuses : (content : List ℕ) (host : Host) → RefusesContent head content → line_holds line content host ≡ false
+  -- It has no more windows than the line.
+  pub within : (size : ℕ) → head_windows size head ≤ windows_in size line.own
 
 -- each line of indent 0 has its head, in their order
 abbrev pub AreLineHeads : List LineHead → List PlainTop → Type 0

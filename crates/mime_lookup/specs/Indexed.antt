@@ -1,5 +1,5 @@
 -- What an index keeps of its database.
-use Rattle.std.specs.Prelude.{◌≡◌, ℕ, ◌<◌, List, map}
+use Rattle.std.specs.Prelude.{◌≡◌, ℕ, ◌<◌, List, length, map}
 use Rattle.std.specs.Borrow.{Bor}
 use Rattle.mime_base.specs.Database.{plain_database}
 use Rattle.mime_base.specs.Database.PlainPairs.{plain_pairs}
@@ -13,7 +13,7 @@ use Rattle.mime_lookup.specs.CheckingOrder.{read_limit}
 use Rattle.mime_lookup.specs.Heads.{AreLineHeads, AreNoneShorter}
 use Rattle.mime_lookup.specs.Pairs.{ArePaired}
 use Rattle.mime_lookup.specs.Places.{ArePlaced}
-use Rattle.mime_lookup.specs.Tables.{AreTables}
+use Rattle.mime_lookup.specs.Tables.{AreTables, OwnsLines}
 use Rattle.mime_lookup.specs.TopLines.{PlainTop, lent_matchlet, lent_top, plain_tops, top_lines}
 use Rattle.mime_lookup.specs.declared.indexed.heads.Heads.{Heads}
 use Rattle.mime_lookup.specs.declared.indexed.line_head.LineHead.{LineHead}
@@ -34,13 +34,14 @@ pub record AreUnaliased (names : PlainIndex) (database : Database) : Type 0 wher
   pub are : names.given ≡ map (unaliased_rule (plain_pairs database.aliases.items)) database.rules.items
   pub own : names.own ≡ database.rules.items
 
--- Each line of indent 0 has its head, and is found by its place and its byte, or is asked by itself, mostly by a pair; of a content with
--- fewer bytes than `shortest` none is asked.
+-- Each line of indent 0 has its head, and is found by its place and its byte, or is asked by itself, mostly by a pair, and not both; of a
+-- content with fewer bytes than `shortest` none is asked.
 pub record AreFound (heads : List LineHead) (tables : Tables) (pairs : List ℕ) (shortest : ℕ) (tops : List PlainTop) : Type 0 where
   pub headed : AreLineHeads heads tops
   pub tabled : AreTables tables heads 0
   pub paired : ArePaired pairs tables.others.items heads
   pub none_shorter : AreNoneShorter shortest heads
+  pub owned : (owner : ℕ → ℕ) × OwnsLines tables owner (length tops) 0
 
 -- an index of these sections of magic: it has their lines of indent 0, in their order, each with the type and the priority of its section
 abbrev pub IsMagicIndex : List LentLine × List (TopLine LentTop) → List PlainSection → Type 0

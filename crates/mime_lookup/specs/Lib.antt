@@ -28,6 +28,7 @@ pub mod Spent
 pub mod Steps
 pub mod Halves
 pub mod Fronts
+pub mod LineBytes
 pub mod LookUps
 pub mod MagicOf
 pub mod Question

@@ -19,6 +19,7 @@ pub record IsSlot (places : List ℕ) (slot : ℕ) (head : LineHead) : Type 0 wh
   pub table : ℕ
   pub inside : table < length places
   pub place : slice_index places table ≡ head.start
+  pub byte : head.first < 256
   pub slot_is : slot ≡ table * 256 + head.first
 
 -- A line with this head is found from its slot on.
@@ -34,6 +35,37 @@ pub record AreTables (tables : Tables) (heads : List LineHead) (low : ℕ) : Typ
   pub slots : length tables.firsts.items ≡ length tables.places.items * 256
   pub each : (line : ℕ) (head : LineHead) → low ≤ line → line < length heads → head ≡ get_or heads line head
       → Contains tables.others.items line ⊎ IsInTable tables low line head
+
+-- These lines are all of one owner, and are listed from the last to the first.
+pub record OwnsOthers (others : List ℕ) (owner : ℕ → ℕ) (this lines : ℕ) : Type 0 where
+  -- They are of this owner.
+  pub own : (i : ℕ) → i < length others → owner (slice_index others i) ≡ this
+  -- They are lines.
+  pub inside : (i : ℕ) → i < length others → slice_index others i < lines
+  -- Each comes after the next in the list.
+  pub falls : (i : ℕ) → i + 1 < length others → slice_index others (i + 1) < slice_index others i
+
+-- Each line from `low` on has one owner: the table that names it, or, if none does, the number of all tables.
+pub record OwnsLines (tables : Tables) (owner : ℕ → ℕ) (lines low : ℕ) : Type 0 where
+  -- There are no more tables than lines.
+  pub few : length tables.places.items ≤ lines
+  -- A slot of a table names a line that it owns.
+  pub named : (table byte line : ℕ) → byte < 256 → slice_index tables.firsts.items (table * 256 + byte) ≡ line + 1
+      → (low ≤ line) × (owner line ≡ table)
+  -- A line of a table names one that the same table owns.
+  pub next : (line after : ℕ) → low ≤ line → owner line < length tables.places.items
+      → slice_index tables.nexts.items line ≡ after + 1 → (low ≤ after) × (owner after ≡ owner line)
+  -- No table owns the others.
+  pub others : OwnsOthers tables.others.items owner (length tables.places.items) lines
+  -- They are none before `low`.
+  pub late : (i : ℕ) → i < length tables.others.items → low ≤ slice_index tables.others.items i
+
+-- The lines that one leads to are all of one owner.
+pub record LeadsOwn (nexts : List ℕ) (owner : ℕ → ℕ) (this link : ℕ) : Type 0 where
+  -- The one that is named is.
+  pub named : (line : ℕ) → link ≡ line + 1 → owner line ≡ this
+  -- Each of its lines names one of its lines.
+  pub next : (line after : ℕ) → owner line ≡ this → slice_index nexts line ≡ after + 1 → owner after ≡ this
 
 -- One of the tables is there, with the links of the lines.
 pub record HasTable (tables : Tables) (lines table : ℕ) : Type 0 where

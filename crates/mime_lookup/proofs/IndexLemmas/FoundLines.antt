@@ -20,7 +20,7 @@ abbrev pub no_head : LineHead
 no_head = record { start = 0; range = 0; size = 0; skip = 0; first = 0; second = 0; third = 0; fourth = 0 }
 
 -- the head of a line at a place
-head_at : (line : ℕ) (heads : List LineHead) (tops : List PlainTop) (head : LineHead) (top : PlainTop) →
+pub head_at : (line : ℕ) (heads : List LineHead) (tops : List PlainTop) (head : LineHead) (top : PlainTop) →
     AreLineHeads heads tops → line < length tops → head ≡ get_or heads line head →
     top ≡ get_or tops line top → IsHeadOf head top.line
 head_at line [] [] head top are within is top_is = absurd (omega arith)
@@ -36,7 +36,7 @@ module _ (heads : List LineHead) (tops : List PlainTop) (content : List ℕ) (ho
   -- a line whose head refuses a content doesn't hold for it
   pub refused_fails : (line : ℕ) (head : LineHead) → head ≡ get_or heads line head → RefusesContent head content →
       FailsLine tops content host line
-  refused_fails line head is refuses = λ top inside top_is. head_at line heads tops head top are inside is top_is content host refuses
+  refused_fails line head is refuses = λ top inside top_is. (head_at line heads tops head top are inside is top_is).refuses content host refuses
 
   -- of a content that is shorter than each head says no line holds
   pub none_is_first : (shortest : ℕ) → AreNoneShorter shortest heads → length content < shortest → IsFirst tops content host (length tops)

@@ -104,7 +104,10 @@ module _ (own : PlainLine) (host : Host) (content : List ℕ) (head : LineHead) 
 
 -- a head of what a line seeks is a head of the line
 pub head_of_line : (head : LineHead) (m : PlainMatchlet) → IsHead head m.own → IsHeadOf head m
-head_of_line head m is = λ content host refuses. line_holds-differs content host m (is content host refuses)
+head_of_line head m is = record {
+  refuses = λ content host refuses. line_holds-differs content host m (is.refuses content host refuses);
+  within = is.within;
+}
 
 -- a head more, and a line
 pub line_heads-more : (heads : List LineHead) (tops : List PlainTop) (head : LineHead) (top : PlainTop) → AreLineHeads heads tops →

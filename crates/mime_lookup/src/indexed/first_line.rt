@@ -2,11 +2,12 @@
 //!
 //! The lowest number of a line that was found to hold is kept, and no line after it is asked.
 
-ghost use Rattle.std.specs.Prelude.{◌≡◌, ◌*◌, ◌<◌, ◌≤◌, length, true, false};
+ghost use Rattle.std.specs.Prelude.{◌≡◌, ℕ, ◌+◌, ◌*◌, ◌<◌, ◌≤◌, length, true, false};
 ghost use Rattle.mime_lookup.specs.Heads.{AreLineHeads};
 ghost use Rattle.mime_lookup.specs.Indexed.{AreFound};
+ghost use Rattle.mime_lookup.specs.LineBytes.{asked_bytes, index_bytes, table_bytes, tables_bytes};
 ghost use Rattle.mime_lookup.specs.Pairs.{ArePaired, IsPairAt};
-ghost use Rattle.mime_lookup.specs.Tables.{ChainFails, FailsLine, HasTable, Holds, IsFirst, Narrows, OthersFail, TableFails, TablesFail};
+ghost use Rattle.mime_lookup.specs.Tables.{ChainFails, FailsLine, HasTable, Holds, IsFirst, LeadsOwn, Narrows, OthersFail, OwnsLines, OwnsOthers, TableFails, TablesFail};
 ghost use Rattle.mime_lookup.specs.TopLines.{plain_tops};
 
 use crate::indexed::heads::Heads;
@@ -33,6 +34,9 @@ pub fn first_line<S: MagicLines<L>, L: Drop>(
     ensures first { IsFirst (plain_tops (S.plain heads.now.source) heads.now.tops.items) content.now host result }
     // No record of a cache is visited.
     ensures nodes { meter.new.nodes ≡ meter.old.nodes }
+    // Each line is asked at most once, and so is each table, and each place of the content's front.
+    ensures bytes { meter.new.bytes ≤ meter.old.bytes
+        + index_bytes (length content.now) (plain_tops (S.plain heads.now.source) heads.now.tops.items) }
 {
     if content.len() < heads.shortest {
         return heads.tops.len();
@@ -66,6 +70,9 @@ fn among_tables<S: MagicLines<L>, L: Drop>(
     ensures fail { TablesFail (plain_tops (S.plain asked.now.source.now) asked.now.tops.now) asked.now.content.now asked.now.host tables.now result
         (length tables.now.places.items) }
     ensures nodes { meter.new.nodes ≡ meter.old.nodes }
+    ensures bytes { (owner : ℕ → ℕ) → OwnsLines tables.now owner (length asked.now.tops.now) 0
+        → meter.new.bytes ≤ meter.old.bytes + length tables.now.places.items
+        + tables_bytes (length asked.now.content.now) (plain_tops (S.plain asked.now.source.now) asked.now.tops.now) owner (length tables.now.places.items) }
 {
     meter.add_bytes(tables.places.len() as u64);
     let mut first = asked.tops.len();
@@ -90,6 +97,8 @@ fn in_table<S: MagicLines<L>, L: Drop>(
     ensures narrows { Narrows (plain_tops (S.plain asked.now.source.now) asked.now.tops.now) asked.now.content.now asked.now.host until result }
     ensures fail { TableFails (plain_tops (S.plain asked.now.source.now) asked.now.tops.now) asked.now.content.now asked.now.host tables.now result table }
     ensures nodes { meter.new.nodes ≡ meter.old.nodes }
+    ensures bytes { (owner : ℕ → ℕ) → OwnsLines tables.now owner (length asked.now.tops.now) 0
+        → meter.new.bytes ≤ meter.old.bytes + table_bytes (length asked.now.content.now) (plain_tops (S.plain asked.now.source.now) asked.now.tops.now) owner table }
 {
     let bytes = asked.content.bytes();
     let place = tables.places[table] as usize;
@@ -115,6 +124,8 @@ fn in_chain<S: MagicLines<L>, L: Drop>(
     ensures narrows { Narrows (plain_tops (S.plain asked.now.source.now) asked.now.tops.now) asked.now.content.now asked.now.host until result }
     ensures fail { ChainFails (plain_tops (S.plain asked.now.source.now) asked.now.tops.now) asked.now.content.now asked.now.host nexts.now named result }
     ensures nodes { meter.new.nodes ≡ meter.old.nodes }
+    ensures bytes { (owner : ℕ → ℕ) (this : ℕ) → LeadsOwn nexts.now owner this named
+        → meter.new.bytes ≤ meter.old.bytes + table_bytes (length asked.now.content.now) (plain_tops (S.plain asked.now.source.now) asked.now.tops.now) owner this }
 {
     let (mut low, mut link) = (0, usize::from(named));
     while low < link && link <= until {
@@ -142,6 +153,8 @@ fn among_others<S: MagicLines<L>, L: Drop>(
     ensures narrows { Narrows (plain_tops (S.plain asked.now.source.now) asked.now.tops.now) asked.now.content.now asked.now.host until result }
     ensures fail { OthersFail (plain_tops (S.plain asked.now.source.now) asked.now.tops.now) asked.now.content.now asked.now.host others.now result 0 }
     ensures nodes { meter.new.nodes ≡ meter.old.nodes }
+    ensures bytes { (owner : ℕ → ℕ) (this : ℕ) → OwnsOthers others.now owner this (length asked.now.tops.now)
+        → meter.new.bytes ≤ meter.old.bytes + table_bytes (length asked.now.content.now) (plain_tops (S.plain asked.now.source.now) asked.now.tops.now) owner this }
 {
     meter.add_bytes(others.len() as u64);
     let (mut first, mut at) = (until, others.len());
@@ -170,6 +183,8 @@ fn other_holds<S: MagicLines<L>, L: Drop>(
     ensures holds { result ≡ true → Holds (plain_tops (S.plain asked.now.source.now) asked.now.tops.now) asked.now.content.now asked.now.host line }
     ensures fails { result ≡ false → line < until → FailsLine (plain_tops (S.plain asked.now.source.now) asked.now.tops.now) asked.now.content.now asked.now.host line }
     ensures nodes { meter.new.nodes ≡ meter.old.nodes }
+    ensures bytes { meter.new.bytes + 1
+        ≤ meter.old.bytes + asked_bytes (length asked.now.content.now) (plain_tops (S.plain asked.now.source.now) asked.now.tops.now) line }
 {
     if !asked.content.may_have(pair) {
         return false;

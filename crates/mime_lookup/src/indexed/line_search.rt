@@ -1,7 +1,8 @@
 //! Lines of magic, and the content that they are asked of.
 
-ghost use Rattle.std.specs.Prelude.{◌≡◌, ℕ, ◌+◌, ◌<◌, ◌≤◌, true, false, length, slice_index};
-ghost use Rattle.mime_lookup.specs.Heads.{AreLineHeads, RefusesContent, ShowsBytes};
+ghost use Rattle.std.specs.Prelude.{◌≡◌, ℕ, ◌+◌, ◌-◌, ◌<◌, ◌≤◌, true, false, length, slice_index};
+ghost use Rattle.mime_lookup.specs.Heads.{AreLineHeads, RefusesContent, ShowsBytes, head_windows};
+ghost use Rattle.mime_lookup.specs.LineBytes.{asked_bytes};
 ghost use Rattle.mime_lookup.specs.Tables.{FailsLine, Holds};
 ghost use Rattle.mime_lookup.specs.TopLines.{plain_tops};
 
@@ -45,6 +46,9 @@ pub fn line_holds<S: MagicLines<L>, L: Drop>(
     ensures fails { result ≡ false → FailsLine (plain_tops (S.plain asked.now.source.now) asked.now.tops.now) asked.now.content.now asked.now.host line }
     // No record of a cache is visited.
     ensures nodes { meter.new.nodes ≡ meter.old.nodes }
+    // With one for the line, it looks at no more than asking it may.
+    ensures bytes { meter.new.bytes + 1
+        ≤ meter.old.bytes + asked_bytes (length asked.now.content.now) (plain_tops (S.plain asked.now.source.now) asked.now.tops.now) line }
 {
     if refuses(&asked.heads[line], asked.content, meter) {
         return false;
@@ -60,6 +64,7 @@ pub fn line_holds<S: MagicLines<L>, L: Drop>(
 fn refuses(head: &LineHead, content: &NotedPairs<'_>, meter: &mut Meter) -> bool
     ensures refuses { result ≡ true → RefusesContent head.now content.now }
     ensures nodes { meter.new.nodes ≡ meter.old.nodes }
+    ensures bytes { meter.new.bytes ≤ meter.old.bytes + head_windows (length content.now) head.now }
 {
     let bytes = content.bytes();
     let (start, size) = (head.start as usize, usize::from(head.size));
@@ -109,6 +114,7 @@ fn lacks_pairs(
     ensures lacks { result ≡ true → (place : ℕ) → start ≤ place → place < end
         → ShowsBytes head.now content.now place → ⊥ }
     ensures nodes { meter.new.nodes ≡ meter.old.nodes }
+    ensures bytes { meter.new.bytes ≤ meter.old.bytes + (end - start) }
 {
     let (bytes, skip) = (content.bytes(), usize::from(head.skip));
     if end + skip > FRONT {
@@ -140,6 +146,7 @@ fn lacks_far(
     ensures lacks { result ≡ true → (place : ℕ) → start ≤ place → place < end → slice_index bytes.now place ≡ first
         → slice_index bytes.now (place + 1) ≡ second → ⊥ }
     ensures nodes { meter.new.nodes ≡ meter.old.nodes }
+    ensures bytes { meter.new.bytes ≤ meter.old.bytes + (end - start) }
 {
     meter.add_bytes((end - start) as u64);
     match memchr(first, &bytes[start..end]) {

@@ -1,11 +1,12 @@
 //! An index of the magic that was read back from a cache.
 
-ghost use Rattle.std.specs.Prelude.{◌≡◌, ◌++◌, ◌-◌, ◌≤◌, List, IfOk, OnOk, length, take, drop};
+ghost use Rattle.std.specs.Prelude.{◌≡◌, ◌++◌, ◌+◌, ◌-◌, ◌≤◌, List, IfOk, OnOk, length, take, drop};
 ghost use Rattle.mime_base.specs.Magic.Holds.{first_magic};
 ghost use Rattle.mime_base.specs.Magic.{PlainSection};
 ghost use Rattle.mime_load.specs.Lent.{lent_forest, plain_magic};
 ghost use Rattle.mime_lookup.specs.Indexed.{IsMagicIndex};
-ghost use Rattle.mime_lookup.specs.TopLines.{lent_top, plain_tops, tops_of};
+ghost use Rattle.mime_lookup.specs.LineBytes.{index_bytes};
+ghost use Rattle.mime_lookup.specs.TopLines.{lent_top, plain_tops, top_lines, tops_of};
 ghost use Rattle.mime_view.specs.Magic.{plain_found};
 
 use crate::indexed::heads::{Heads, heads_of};
@@ -86,6 +87,9 @@ impl<'a> MagicIndex<'a> {
             → plain_found result ≡ first_magic sections content.now host }
         // No record of a cache is visited.
         ensures nodes { meter.new.nodes ≡ meter.old.nodes }
+        // Each of their lines is asked at most once, and so is each table, and each place of the content's front.
+        ensures bytes { (sections : List PlainSection) → IsMagicIndex self.now sections
+            → meter.new.bytes ≤ meter.old.bytes + index_bytes (length content.now) (top_lines sections) }
     {
         first_section(&self.heads, content, host, meter)
     }

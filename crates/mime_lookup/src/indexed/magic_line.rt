@@ -2,6 +2,7 @@
 
 ghost use Rattle.std.specs.Prelude.{◌≡◌, ◌+◌, ◌≤◌, length, take, drop};
 ghost use Rattle.mime_base.specs.Magic.Holds.{line_holds};
+ghost use Rattle.mime_base.specs.Magic.WindowBytes.{line_bytes};
 ghost use Rattle.mime_base.specs.Magic.{PlainMatchlet, mask_bytes};
 ghost use Rattle.mime_load.specs.Lent.{lent_mask};
 ghost use Rattle.mime_lookup.specs.Heads.{IsHeadOf};
@@ -26,7 +27,9 @@ pub trait MagicLines<L>: Drop {
         // It says whether the line holds.
         ensures holds { result ≡ line_holds (plain self.now line.now) content.now host }
         // No record of a cache is visited.
-        ensures nodes { meter.new.nodes ≡ meter.old.nodes };
+        ensures nodes { meter.new.nodes ≡ meter.old.nodes }
+        // It and each line below it compares at most the bytes of its windows that lie in the content.
+        ensures bytes { meter.new.bytes ≤ meter.old.bytes + line_bytes (length content.now) (plain self.now line.now) };
 }
 
 /// The lines of a database, each of which is lent by itself.

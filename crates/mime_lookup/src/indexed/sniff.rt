@@ -1,9 +1,10 @@
 //! The first section of magic that holds for a content, of lines that their heads don't refuse.
 
-ghost use Rattle.std.specs.Prelude.{◌≡◌, List};
+ghost use Rattle.std.specs.Prelude.{◌≡◌, ◌+◌, ◌≤◌, List, length};
 ghost use Rattle.mime_base.specs.Magic.Holds.{first_magic};
 ghost use Rattle.mime_base.specs.Magic.{PlainSection};
 ghost use Rattle.mime_lookup.specs.Indexed.{AreFound};
+ghost use Rattle.mime_lookup.specs.LineBytes.{index_bytes};
 ghost use Rattle.mime_lookup.specs.TopLines.{plain_tops, top_lines};
 ghost use Rattle.mime_view.specs.Magic.{plain_found};
 
@@ -28,6 +29,9 @@ pub fn first_section<'a, S: MagicLines<L>, L: Drop>(
         → plain_found result ≡ first_magic sections content.now host }
     // No record of a cache is visited.
     ensures nodes { meter.new.nodes ≡ meter.old.nodes }
+    // Each line is asked at most once, and so is each table, and each place of the content's front.
+    ensures bytes { meter.new.bytes ≤ meter.old.bytes
+        + index_bytes (length content.now) (plain_tops (S.plain heads.now.source) heads.now.tops.items) }
 {
     let first = first_line(heads, content, host, meter);
     if first < heads.tops.len() {

@@ -5,8 +5,8 @@
 //! next. Only the lines of the bytes that stand in a content are asked of it, and all other lines by themselves. A line
 //! is named by its number and one more, so that 0 names none.
 
-ghost use Rattle.std.specs.Prelude.{◌≡◌, ◌+◌, ◌*◌, ◌<◌, ◌≤◌, length, slice_index, slice_set, IfOk, IfSome};
-ghost use Rattle.mime_lookup.specs.Tables.{AreTables, IsSlot};
+ghost use Rattle.std.specs.Prelude.{◌≡◌, ℕ, ◌+◌, ◌*◌, ◌<◌, ◌≤◌, length, slice_index, slice_set, IfOk, IfSome};
+ghost use Rattle.mime_lookup.specs.Tables.{AreTables, IsSlot, OwnsLines};
 
 use crate::indexed::line_head::LineHead;
 use mime_base::OutOfMemory;
@@ -34,7 +34,9 @@ pub struct Tables {
 /// The tables of lines with these heads.
 pub fn tables_of(alloc: Global, heads: &[LineHead]) -> Result<Tables, OutOfMemory>
     // Each line is found by its place and its byte, or is asked by itself.
-    ensures { IfOk result (λ tables. AreTables tables heads.now 0) }
+    ensures found { IfOk result (λ tables. AreTables tables heads.now 0) }
+    // None is in two tables, nor in one and asked by itself.
+    ensures owned { IfOk result (λ tables. (owner : ℕ → ℕ) × OwnsLines tables owner (length heads.now) 0) }
 {
     // Of each line first the number of its table, which spares another search for it.
     let mut nexts = vec![in alloc; 0; heads.len()]?;
@@ -66,6 +68,7 @@ fn places_of(
 ) -> Result<Vec<u32>, OutOfMemory>
     requires size { length numbers.old.items ≡ length heads.now }
     ensures most { IfOk result (λ places. length places.items ≤ 256) }
+    ensures few { IfOk result (λ places. length places.items ≤ length heads.now) }
     ensures size { length numbers.new.items ≡ length heads.now }
 {
     let mut places = Vec::new(alloc);
