@@ -5,6 +5,7 @@ pub mod Walks
 pub mod Marks
 pub mod MarkSets
 pub mod Searches
+pub mod SearchBytes
 pub mod Above
 pub mod OneParent
 pub mod MediaTypes

@@ -10,3 +10,5 @@ pub mod Chains
 pub mod LineBytes
 pub mod Owners
 pub mod IndexNodes
+pub mod IndexBytes
+pub mod OrderBytes

@@ -7,6 +7,7 @@ pub mod MagicFirst
 pub mod ContentOnly
 pub mod GlobsFirst
 pub mod Candidates
+pub mod FewTypes
 pub mod AllGlobs
 pub mod TypesBefore
 pub mod ByNames

@@ -1,5 +1,6 @@
 -- Lemmas on the type of a content, and on a front of it that is enough.
 pub mod Sniffs
+pub mod ShortTypes
 pub mod FirstSections
 pub mod Findings
 pub mod FoundFronts

@@ -1,4 +1,5 @@
 pub mod Choice
+pub mod ShortTypes
 pub mod Sniffing
 pub mod CheckingOrder
 pub mod Content
@@ -41,6 +42,7 @@ pub mod Pairs
 pub mod Tables
 pub mod Indexed
 pub mod IndexNodes
+pub mod IndexBytes
 pub mod Paid
 pub mod PairsReadBack
 pub mod Named

@@ -5,11 +5,12 @@
 //! no type is expanded twice. The places of all pairs are found once, so a search goes through the
 //! pairs of the types that it meets, and no others.
 
-ghost use Rattle.std.specs.Prelude.{◌≡◌, ◌↔◌, ◌+◌, false, length, IfOk, IsTrue, OnOk};
+ghost use Rattle.std.specs.Prelude.{◌≡◌, ◌↔◌, ◌+◌, ◌≤◌, false, length, IfOk, IsTrue, OnOk};
 ghost use Rattle.mime_base.specs.Database.{pairs_of, plain_database};
 ghost use Rattle.mime_base.specs.Database.Subclass.{IsA};
 ghost use Rattle.mime_lookup.specs.Ancestry.{AnswersSearch, Expanded, is_among, kinds_of, unmarked};
 ghost use Rattle.mime_lookup.specs.Choice.{IsFirst};
+ghost use Rattle.mime_lookup.specs.IndexBytes.{search_bytes};
 ghost use Rattle.mime_lookup.specs.Places.{ArePlaced, placed};
 
 use crate::places::{PlacedPairs, placed_pairs, push_parents};
@@ -30,6 +31,9 @@ pub fn first_of<'a>(
 ) -> Result<&'a [u8], OutOfMemory>
     // No record of a cache is visited.
     ensures nodes { meter.new.nodes ≡ meter.old.nodes }
+    // Each type that is met is compared with the base once, and no more bytes are.
+    ensures bytes { meter.new.bytes ≤ meter.old.bytes
+        + search_bytes (length kinds.now) (length (plain_database database.entry.now).parents) (length base.now) }
     // It is the first of the types that is the base or a subclass of it, else the default.
     ensures first { IfOk result (λ kind. IsFirst (pairs_of (plain_database database.entry.now))
         base.now default.entry.now (kinds_of kinds.now) kind.now) }
@@ -52,6 +56,9 @@ pub fn first_at<'a>(
     requires placed { ArePlaced both.now }
     // No record of a cache is visited.
     ensures nodes { meter.new.nodes ≡ meter.old.nodes }
+    // Each type that is met is compared with the base once, and no more bytes are.
+    ensures bytes { meter.new.bytes ≤ meter.old.bytes
+        + search_bytes (length kinds.now) (length (placed both.now).parents) (length base.now) }
     // It is the first of the types that is the base or a subclass of it, else the default.
     ensures first { IfOk result (λ kind. IsFirst (placed both.now)
         base.now default.entry.now (kinds_of kinds.now) kind.now) }
@@ -77,6 +84,8 @@ pub fn leads_to<'a>(
     requires placed { ArePlaced both.now }
     // No record of a cache is visited.
     ensures nodes { meter.new.nodes ≡ meter.old.nodes }
+    // Each type that is met is compared with the base once, and no more bytes are.
+    ensures bytes { meter.new.bytes ≤ meter.old.bytes + search_bytes 1 (length (placed both.now).parents) (length base.now) }
     // It says so.
     ensures answer { IfOk result (λ is. IsTrue is ↔ IsA (placed both.now) kind.entry.now base.now) }
 {
@@ -96,6 +105,11 @@ fn is_a<'a>(
 ) -> Result<bool, OutOfMemory>
     requires placed { ArePlaced both.now }
     ensures nodes { meter.new.nodes ≡ meter.old.nodes }
+    ensures bytes { meter.new.bytes ≤ meter.old.bytes
+        + search_bytes 1 (unmarked (placed both.now).parents (is_among marks.old.keys)) (length base.now) }
+    ensures left { OnOk result (meter.new.bytes
+        + search_bytes 0 (unmarked (placed both.now).parents (is_among marks.new.keys)) (length base.now) ≤ meter.old.bytes
+        + search_bytes 1 (unmarked (placed both.now).parents (is_among marks.old.keys)) (length base.now)) }
     ensures answer { AnswersSearch (placed both.now) kind.entry.now base.now
         (is_among marks.old.keys) (is_among marks.new.keys) result }
 {

@@ -12,6 +12,8 @@ ghost use Rattle.mime_base.specs.Magic.Holds.{first_magic};
 ghost use Rattle.mime_lookup.specs.Ancestry.{kinds_of};
 ghost use Rattle.mime_lookup.specs.CheckingOrder.{read_limit};
 ghost use Rattle.mime_lookup.specs.Choice.{IsFirst, candidates, kept};
+ghost use Rattle.mime_lookup.specs.IndexBytes.{search_bytes};
+ghost use Rattle.mime_lookup.specs.ShortTypes.{HasShortTypes};
 ghost use Rattle.mime_view.specs.Magic.{plain_found};
 
 use mime_base::{Host, Meter, OutOfMemory};
@@ -29,6 +31,18 @@ pub trait Asked<'a> {
     // And those of all rules that match it.
     ghost all_nodes: { Self → List ℕ → ℕ };
 
+    // The bytes that the types of the kept rules of a name compare at most.
+    ghost kept_bytes: { Self → List ℕ → ℕ };
+
+    // And those of all rules that match it.
+    ghost all_bytes: { Self → List ℕ → ℕ };
+
+    // Whether the bytes that a content compares are bounded.
+    ghost bounds_content: { Self → Type 0 };
+
+    // Then so many at most, for the content's length.
+    ghost content_bytes: { Self → ℕ → ℕ };
+
     /// The types of the rules that are kept of a name, each after one alias step.
     fn kept_kinds(
         &self,
@@ -40,7 +54,9 @@ pub trait Asked<'a> {
         ensures kept { IfOk result (λ kinds. kinds_of kinds.items
             ≡ kept (pairs_of (plain self.now)) (plain self.now).rules name.now) }
         // No more nodes are counted, and no record of a cache is visited.
-        ensures nodes { meter.new.nodes ≤ meter.old.nodes + kept_nodes self.now name.now };
+        ensures nodes { meter.new.nodes ≤ meter.old.nodes + kept_nodes self.now name.now }
+        // No more bytes are compared.
+        ensures bytes { meter.new.bytes ≤ meter.old.bytes + kept_bytes self.now name.now };
 
     /// The types of all rules that match a name, by falling rank, each after one alias step, and how many of these are kept.
     fn candidate_kinds(
@@ -56,7 +72,9 @@ pub trait Asked<'a> {
         ensures count { IfOk result (λ found. found.kept
             ≡ length (kept (pairs_of (plain self.now)) (plain self.now).rules name.now)) }
         // No more nodes are counted, and no record of a cache is visited.
-        ensures nodes { meter.new.nodes ≤ meter.old.nodes + all_nodes self.now name.now };
+        ensures nodes { meter.new.nodes ≤ meter.old.nodes + all_nodes self.now name.now }
+        // No more bytes are compared.
+        ensures bytes { meter.new.bytes ≤ meter.old.bytes + all_bytes self.now name.now };
 
     /// The type and the priority of the first section with a line of indent 0 that holds for a content.
     fn first_section(
@@ -68,7 +86,9 @@ pub trait Asked<'a> {
         // They are those of the first section that holds.
         ensures first { plain_found result ≡ first_magic (plain self.now).sections content.now host }
         // No record of a cache is visited.
-        ensures nodes { meter.new.nodes ≡ meter.old.nodes };
+        ensures nodes { meter.new.nodes ≡ meter.old.nodes }
+        // No more bytes are compared, where they are bounded.
+        ensures bytes { bounds_content self.now → meter.new.bytes ≤ meter.old.bytes + content_bytes self.now (length content.now) };
 
     /// A type after one alias step.
     fn unalias(&self, kind: &'a [u8]) -> &'a [u8]
@@ -86,6 +106,9 @@ pub trait Asked<'a> {
     ) -> Result<&'a [u8], OutOfMemory>
         // No record of a cache is visited.
         ensures nodes { meter.new.nodes ≡ meter.old.nodes }
+        // Each type that is met is compared with the base once, and no more bytes are.
+        ensures bytes { meter.new.bytes ≤ meter.old.bytes
+            + search_bytes (length kinds.now) (length (plain self.now).parents) (length base.now) }
         // It is the first of the types that is the base or a subclass of it, else the default.
         ensures first { IfOk result (λ kind. IsFirst (pairs_of (plain self.now))
             base.now default.entry.now (kinds_of kinds.now) kind.now) };
@@ -97,8 +120,10 @@ pub trait Asked<'a> {
         // Something is read.
         ensures some { 0 < result };
 
-    /// The rules keep their limits, as those of every database do.
+    /// The rules and the types keep their limits, as those of every database do.
     fn keeps_limits(&self)
         // Each rule fits a rank.
-        ensures { All FitsRank (plain self.now).rules };
+        ensures ranks { All FitsRank (plain self.now).rules }
+        // Each type that a content may be sniffed as has at most 255 bytes.
+        ensures types { HasShortTypes (plain self.now) };
 }

@@ -1,10 +1,11 @@
 //! All rules of a name that match it ("Recommended checking order").
 
-ghost use Rattle.std.specs.Prelude.{◌≡◌, List, length, map, All, IfOk};
+ghost use Rattle.std.specs.Prelude.{◌≡◌, ◌+◌, ◌≤◌, List, length, map, All, IfOk};
 ghost use Rattle.std.specs.Borrow.{Bor};
 ghost use Rattle.mime_base.specs.Falling.{falling};
 ghost use Rattle.mime_base.specs.Kept.{FitsRank, candidate_rules, kept_rules, of_greatest, rank_of_rule};
 ghost use Rattle.mime_base.specs.declared.database.rule.GlobRule as spec;
+ghost use Rattle.mime_lookup.specs.IndexBytes.{tried_bytes};
 
 use mime_base::{GlobRule, Meter, OutOfMemory, glob_matches, rank_of_rule};
 use std::alloc::Global;
@@ -31,6 +32,8 @@ pub fn candidate_rules<'a>(
     ensures kept { All FitsRank rules.now → IfOk result (λ all. all.kept ≡ length (kept_rules rules.now name.now)) }
     // No record of a cache is visited.
     ensures nodes { meter.new.nodes ≡ meter.old.nodes }
+    // Each rule is tried once, and no more bytes are compared.
+    ensures bytes { meter.new.bytes ≤ meter.old.bytes + tried_bytes rules.now name.now }
 {
     let mut found = Vec::new(alloc);
     for rule in rules {

@@ -1,7 +1,8 @@
 //! The kept rules of a name ("Recommended checking order").
 
-ghost use Rattle.std.specs.Prelude.{◌≡◌, map, IfOk};
+ghost use Rattle.std.specs.Prelude.{◌≡◌, ◌+◌, ◌≤◌, map, IfOk};
 ghost use Rattle.mime_base.specs.Kept.{kept_rules};
+ghost use Rattle.mime_lookup.specs.IndexBytes.{tried_bytes};
 
 use mime_base::{Best, GlobRule, Meter, OutOfMemory, glob_matches, rank_of_rule};
 use std::alloc::Global;
@@ -17,6 +18,8 @@ pub fn kept_rules<'a>(
     ensures kept { IfOk result (λ kept. map (λ rule. rule.now) kept.items ≡ kept_rules rules.now name.now) }
     // No record of a cache is visited.
     ensures nodes { meter.new.nodes ≡ meter.old.nodes }
+    // Each rule is tried once, and no more bytes are compared.
+    ensures bytes { meter.new.bytes ≤ meter.old.bytes + tried_bytes rules.now name.now }
 {
     let mut best = Best::new(alloc);
     for rule in rules {

@@ -53,6 +53,7 @@ mod queue;
 mod read_back;
 mod reading;
 mod script;
+mod short_types;
 mod sniff;
 mod stopped;
 mod subclass;

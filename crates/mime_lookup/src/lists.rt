@@ -6,6 +6,7 @@ ghost use Rattle.mime_base.specs.Magic.Holds.{first_magic};
 ghost use Rattle.mime_base.specs.Magic.{plain_sections};
 ghost use Rattle.mime_lookup.specs.CheckingOrder.{globs_suffice, read_limit};
 ghost use Rattle.mime_lookup.specs.Content.{known_content};
+ghost use Rattle.mime_lookup.specs.IndexBytes.{tried_bytes};
 ghost use Rattle.mime_lookup.specs.LookUps.{ChoosesSome, IsPlainAnswer, cause_in, meter_in, name_too_long, read_in};
 ghost use Rattle.mime_lookup.specs.Reads.{AsksUnless, IsReadOrMemory, Reads};
 ghost use Rattle.mime_view.specs.Magic.{plain_found};
@@ -22,6 +23,7 @@ use crate::content::Content;
 use crate::kept::kept_rules;
 use crate::order::Order;
 use crate::pairs::{kinds_of_rules, unalias};
+use crate::short_types::types_are_short;
 use crate::stopped::Stopped;
 use mime_base::{
     Database, Host, Meter, OutOfMemory, Section, TEXTUAL_FRONT, database_keeps_limits, extent,
@@ -84,6 +86,14 @@ impl<'a> Asked<'a> for Lists<'a> {
 
     ghost all_nodes = { λ lists name. 0 };
 
+    ghost kept_bytes = { λ lists. tried_bytes lists.database.now.rules.items };
+
+    ghost all_bytes = { λ lists. tried_bytes lists.database.now.rules.items };
+
+    ghost bounds_content = { λ lists. ⊥ };
+
+    ghost content_bytes = { λ lists size. 0 };
+
     #[tactic(auto, unfolding(crate::specs::Choice::kept))]
     fn kept_kinds(
         &self,
@@ -141,6 +151,7 @@ impl<'a> Asked<'a> for Lists<'a> {
 
     fn keeps_limits(&self) {
         database_keeps_limits(self.database);
+        types_are_short(self.database);
     }
 }
 

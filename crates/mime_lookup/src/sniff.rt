@@ -1,6 +1,6 @@
 //! What a content is sniffed as ("Recommended checking order").
 
-ghost use Rattle.std.specs.Prelude.{◌≡◌, false, IfErr, IfOk, IfSome, OnOk, Some};
+ghost use Rattle.std.specs.Prelude.{◌≡◌, ◌+◌, ◌≤◌, false, length, IfErr, IfOk, IfSome, OnOk, Some};
 ghost use Rattle.mime_lookup.specs.CheckingOrder.{IsSniffed, IsSniffedFor, front_size, read_limit};
 ghost use Rattle.mime_lookup.specs.Content.{known_content};
 ghost use Rattle.mime_lookup.specs.Reads.{IsReadOrMemory, UsesReader};
@@ -60,6 +60,8 @@ pub fn sniff_content<'a, A: Asked<'a>, R: Content>(
         content.old content.new read.new result }
     // No record of a cache is visited.
     ensures nodes { meter.new.nodes ≡ meter.old.nodes }
+    // No more bytes are compared than what was read allows, where they are bounded.
+    ensures bytes { A.bounds_content database.now → meter.new.bytes ≤ meter.old.bytes + A.content_bytes database.now read.new }
 {
     match content {
         Some(reader) => {
@@ -88,6 +90,8 @@ fn sniff<'a, A: Asked<'a>>(
     ensures sniffed { IsSniffed (A.plain database.now) (Some content.now) host result }
     // No record of a cache is visited.
     ensures nodes { meter.new.nodes ≡ meter.old.nodes }
+    // No more bytes are compared than the content's length allows, where they are bounded.
+    ensures bytes { A.bounds_content database.now → meter.new.bytes ≤ meter.old.bytes + A.content_bytes database.now (length content.now) }
 {
     match database.first_section(content, host, meter) {
         Some((kind, priority)) => Sniffed {

@@ -44,6 +44,15 @@ pub record Searched (pairs : Pairs) (base start : List ℕ) (marked : List ℕ �
   pub sound : (q : List ℕ) → Contains queue q → IsA pairs q base → IsA pairs start base
   pub ahead : (x : List ℕ) (path : List (List ℕ)) → IsTrue (marked x) → IsPath pairs x base path → OpenBelow pairs base queue (length path)
 
+-- at first no type is expanded, so none is marked that leads to the base
+pub searched_start : (pairs : Pairs) (base start : List ℕ) (marked : List ℕ → Bool) → NoneLeadsTo marked pairs base →
+    Searched pairs base start marked (start ∷ [])
+searched_start pairs base start marked none = record {
+  open_still = λ is_a. (start, Contains-head start [], is_a);
+  sound = λ q has is_a. subst (λ (x : List ℕ). IsA pairs x base) (sym (Contains-only start q has)) is_a;
+  ahead = λ x path is leads. absurd (none x is (path, leads));
+}
+
 -- the first type of the queue is the base
 pub searched_found : (pairs : Pairs) (base start : List ℕ) (marked : List ℕ → Bool) (q : List ℕ) (queue : List (List ℕ)) →
     Searched pairs base start marked (q ∷ queue) → is_by_itself q base ≡ true → IsA pairs start base

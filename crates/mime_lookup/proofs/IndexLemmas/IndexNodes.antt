@@ -18,22 +18,22 @@ use Rattle.mime_names.specs.Rules.{is_text_rule}
 module _ (aliases : List (List ℕ × List ℕ)) (names rules : List GlobRule) (name : List ℕ)
     (are : names ≡ map (unaliased_rule aliases) rules) (old new : ℕ) where
   -- a test that a rule's type is nothing to passes as many
-  passing : (p : GlobRule → Bool) →
+  pub passing : (p : GlobRule → Bool) →
       length (filter p (map (unaliased_rule aliases) rules)) ≡ length (filter (λ rule. p (unaliased_rule aliases rule)) rules)
   passing p =
       ap length (filter-map (unaliased_rule aliases) p rules)
       ∙ length-map (filter (λ rule. p (unaliased_rule aliases rule)) rules) (unaliased_rule aliases)
 
   -- as many are near
-  near-same : near_rules name names ≡ near_rules name rules
+  pub near-same : near_rules name names ≡ near_rules name rules
   near-same = ap (near_rules name) are ∙ passing (near_rule name)
 
   -- and as many texts
-  texts-same : near_texts name names ≡ near_texts name rules
+  pub texts-same : near_texts name names ≡ near_texts name rules
   texts-same = ap (near_texts name) are ∙ passing (λ rule. is_text_rule rule && near_rule name rule)
 
   -- as many texts match
-  hits-same : length (filter is_text_rule (hits names name)) ≡ length (filter is_text_rule (hits rules name))
+  pub hits-same : length (filter is_text_rule (hits names name)) ≡ length (filter is_text_rule (hits rules name))
   hits-same =
       ap (λ rs. length (filter is_text_rule (hits rs name))) are
       ∙ ap (λ found. length (filter is_text_rule found))

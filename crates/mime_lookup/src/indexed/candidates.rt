@@ -4,6 +4,7 @@ ghost use Rattle.std.specs.Prelude.{◌≡◌, ◌+◌, ◌≤◌, length, IfOk}
 ghost use Rattle.mime_base.specs.Database.{pairs_of, plain_database};
 ghost use Rattle.mime_lookup.specs.Ancestry.{kinds_of};
 ghost use Rattle.mime_lookup.specs.Choice.{candidates, kept};
+ghost use Rattle.mime_lookup.specs.IndexBytes.{all_bytes};
 ghost use Rattle.mime_lookup.specs.IndexNodes.{all_nodes};
 
 use crate::asked::Asked;
@@ -26,6 +27,8 @@ pub fn candidate_kinds<'a>(
     ensures count { IfOk result (λ found. found.kept ≡ length (kept (pairs_of (plain_database index.now)) index.now.rules.items name.now)) }
     // No more nodes are counted than the name's length and the rules near it allow.
     ensures nodes { meter.new.nodes ≤ meter.old.nodes + all_nodes index.now.rules.items name.now }
+    // No more bytes are compared than the rules near it allow, or all where most are general patterns.
+    ensures bytes { meter.new.bytes ≤ meter.old.bytes + all_bytes index.now.rules.items name.now }
 {
     index.keeps_limits();
     if index.names.is_mostly_general() {

@@ -1,6 +1,7 @@
 //! The rules that match a name, over an index ("Recommended checking order").
 
 ghost use Rattle.std.specs.Prelude.{◌≡◌, ◌<◌, ◌≤◌, length, IfErr, IfOk};
+ghost use Rattle.mime_lookup.specs.IndexBytes.{hits_bytes};
 ghost use Rattle.mime_lookup.specs.IndexNodes.{all_nodes};
 ghost use Rattle.mime_lookup.specs.LookUps.{name_too_long};
 ghost use Rattle.mime_view.specs.RuleHits.{AreRuleHits};
@@ -18,7 +19,8 @@ use std::alloc::Global;
 ///
 /// Each has its type as the database has it: no alias is resolved. Those of one rank are in their order. A name of more than
 /// 4,096 bytes is [`Cause::NameTooLong`], before anything else. The meter counts each step in the index as a node: at most three
-/// for each byte of the name, six, and one for each rule near it; as bytes it counts what matching compares, with no promised bound.
+/// for each byte of the name, six, and one for each rule near it. As bytes it counts what matching compares: no more than the name's
+/// length, the longest pattern and the rules near the name allow.
 pub fn hits_indexed<'a>(
     alloc: Global,
     index: &IndexedDatabase<'a>,
@@ -32,6 +34,8 @@ pub fn hits_indexed<'a>(
     ensures otherwise { length name.now ≤ 4096 → IfErr result (λ stopped. stopped.cause ≡ Cause.OutOfMemory) }
     // No more nodes are counted than the name's length and the rules near it allow, and no record of a cache is visited.
     ensures nodes { IfOk result (λ found. found.1.nodes ≤ all_nodes index.now.rules.items name.now) }
+    // No more bytes are compared than the name's length, the longest pattern and the rules near the name allow.
+    ensures bytes { IfOk result (λ found. found.1.bytes ≤ hits_bytes index.now.rules.items name.now) }
 {
     let mut meter = Meter::new();
     if name.len() > LONGEST_NAME {

@@ -4,6 +4,7 @@ ghost use Rattle.std.specs.Prelude.{◌≡◌, ◌+◌, ◌≤◌, IfOk};
 ghost use Rattle.mime_base.specs.Database.{pairs_of, plain_database};
 ghost use Rattle.mime_lookup.specs.Ancestry.{kinds_of};
 ghost use Rattle.mime_lookup.specs.Choice.{kept};
+ghost use Rattle.mime_lookup.specs.IndexBytes.{kept_bytes};
 ghost use Rattle.mime_lookup.specs.IndexNodes.{kept_nodes};
 
 use crate::asked::Asked;
@@ -23,6 +24,8 @@ pub fn kept_kinds<'a>(
     ensures kept { IfOk result (λ kinds. kinds_of kinds.items ≡ kept (pairs_of (plain_database index.now)) index.now.rules.items name.now) }
     // No more nodes are counted than the name's length and the rules near it allow.
     ensures nodes { meter.new.nodes ≤ meter.old.nodes + kept_nodes index.now.rules.items name.now }
+    // No more bytes are compared than the rules near it allow, or all where most are general patterns.
+    ensures bytes { meter.new.bytes ≤ meter.old.bytes + kept_bytes index.now.rules.items name.now }
 {
     index.keeps_limits();
     if index.names.is_mostly_general() {

@@ -4,6 +4,7 @@ ghost use Rattle.std.specs.Prelude.{◌≡◌, ◌<◌, ◌≤◌, length, IfErr
 ghost use Rattle.mime_base.specs.Database.{plain_database};
 ghost use Rattle.mime_lookup.specs.CheckingOrder.{globs_suffice, read_limit};
 ghost use Rattle.mime_lookup.specs.Content.{known_content};
+ghost use Rattle.mime_lookup.specs.IndexBytes.{all_bytes, choice_bytes, content_bytes, kept_bytes, order_bytes};
 ghost use Rattle.mime_lookup.specs.IndexNodes.{all_nodes, kept_nodes, order_nodes};
 ghost use Rattle.mime_lookup.specs.LookUps.{ChoosesSome, IsPlainAnswer, cause_in, meter_in, name_too_long, read_in};
 ghost use Rattle.mime_lookup.specs.Reads.{AsksUnless, IsReadOrMemory, Reads};
@@ -19,6 +20,7 @@ use crate::indexed::kept::kept_kinds;
 use crate::indexed::sniff::first_section;
 use crate::order::Order;
 use crate::places::unalias_at;
+use crate::short_types::types_are_short;
 use crate::stopped::Stopped;
 use mime_base::{Host, Meter, OutOfMemory, database_keeps_limits};
 use mime_names::RankedKinds;
@@ -37,7 +39,9 @@ use std::alloc::Global;
 /// names as a node, and no record of a cache: at most three for each byte of the name, six, and one for each
 /// rule near it, however many rules there are. Where most rules are
 /// general patterns each is tried in place of that, and no node is counted. As bytes the meter counts what
-/// matching compares, and each part of the index of magic, with no promised bound.
+/// matching compares, and each part of the index of magic: where the globs suffice no more than the name's length, the
+/// longest pattern and the rules near the name allow, however many rules there are; else no more than that, the lines
+/// and what is read of the content, and the rules that match and the subclass pairs.
 pub fn look_up_indexed<'a, R: Content>(
     alloc: Global,
     index: &IndexedDatabase<'a>,
@@ -65,6 +69,11 @@ pub fn look_up_indexed<'a, R: Content>(
     // Of the index no more nodes are counted than a name's length and the rules near it allow, and no record of a cache is visited.
     ensures nodes { (meter_in result).nodes ≤ order_nodes order
         (kept_nodes index.now.rules.items name.now) (all_nodes index.now.rules.items name.now) }
+    // Where the globs suffice no more bytes are compared than the name's length, the longest pattern and the rules near the name
+    // allow; else no more than that, the lines and what is read of the content, and the rules that match and the subclass pairs.
+    ensures bytes { (meter_in result).bytes ≤ order_bytes order (globs_suffice (plain_database index.now) name.now order)
+        (kept_bytes index.now.rules.items name.now) (all_bytes index.now.rules.items name.now)
+        (content_bytes (plain_database index.now) (read_in result)) (choice_bytes (plain_database index.now) name.now) }
 {
     look_up_over(alloc, index, name, content, host, order)
 }
@@ -75,6 +84,14 @@ impl<'a> Asked<'a> for IndexedDatabase<'a> {
     ghost kept_nodes = { λ database. kept_nodes database.rules.items };
 
     ghost all_nodes = { λ database. all_nodes database.rules.items };
+
+    ghost kept_bytes = { λ database. kept_bytes database.rules.items };
+
+    ghost all_bytes = { λ database. all_bytes database.rules.items };
+
+    ghost bounds_content = { λ database. Unit {0} };
+
+    ghost content_bytes = { λ database. content_bytes (plain_database database) };
 
     // Always inlined, so that the types are not moved.
     #[inline(always)]
@@ -128,5 +145,6 @@ impl<'a> Asked<'a> for IndexedDatabase<'a> {
 
     fn keeps_limits(&self) {
         database_keeps_limits(self.database);
+        types_are_short(self.database);
     }
 }

@@ -1,4 +1,4 @@
-use Rattle.std.proofs.Common.{◌≡◌, [], ◌∷◌, ◌++◌, length, map, take_all, true, false, ap, sym, ◌∙◌}
+use Rattle.std.proofs.Common.{◌≡◌, ◌+◌, [], ◌∷◌, ◌++◌, length, map, take_all, true, false, ap, sym, ◌∙◌, arith}
 use Rattle.std.proofs.lemmas.List.{length-map, map-append}
 use denote.Bor.{Bor}
 use Rattle.mime_base.specs.Falling.{falling}
@@ -10,6 +10,7 @@ use Rattle.mime_base.proofs.KeptLemmas.{of_greatest-rank_of_rule}
 use Rattle.mime_base.proofs.KeptLemmas.Greatest.{of_greatest-map}
 use Rattle.mime_view.proofs.HitsLemmas.WalkOrder.{hits-fit}
 use Rattle.mime_lookup.proofs.OrderLemmas.Hits.{hit_more, miss_more}
+use Rattle.mime_lookup.proofs.IndexLemmas.IndexBytes.{tried-all, tried-more}
 use Rattle.mime_lookup.proofs.candidates.candidate_rules.Goals as goal
 use Rattle.mime_lookup.proofs.candidates.candidate_rules.Goals.{then-glob_matches+in_ok-push, else-glob_matches}
 
@@ -32,6 +33,9 @@ loop-rule-preserved c =
             rw (miss_more rules name i rule c.loop-rule-test.true c.rule-item.is miss, w.found-is) c.loop-rule.invariant.found)
       ];
       nodes = c.glob_matches.ensures.nodes ∙ c.loop-rule.invariant.nodes;
+      bytes =
+          tried-more rules name i rule c.loop-rule-test.true c.rule-item.is c.args.meter.now.bytes c.loop-rule.meter.bytes
+          c.glob_matches.new.meter.bytes c.loop-rule.invariant.bytes (rw c.bytes.ensures.text at c.glob_matches.ensures.cost);
     }
 
 pub returns-clause-candidates : goal.returns-clause-candidates
@@ -53,3 +57,12 @@ returns-clause-kept c = λ fits.
     ∙ sym (length-map (of_greatest (λ (rule : Bor GlobRule). rank_of_rule rule.now) found) value)
     ∙ ap length (sym (of_greatest-map rank_of_rule value found) ∙ ap (of_greatest rank_of_rule) are
     ∙ of_greatest-rank_of_rule (hits c.args.rules.now c.args.name.now) (hits-fit c.args.rules.now c.args.name.now fits))
+
+pub returns-in_err-push-clause-bytes : goal.returns-in_err-push-clause-bytes
+returns-in_err-push-clause-bytes c =
+    let rules = c.args.rules.now in
+    let name = c.args.name.now in
+    let i = c.loop-rule.rule-index in
+    tried-all rules name (i + 1) (omega (arith, c.loop-rule-test.true)) c.args.meter.now.bytes c.glob_matches.new.meter.bytes
+    (tried-more rules name i c.rule-item.result c.loop-rule-test.true c.rule-item.is c.args.meter.now.bytes c.loop-rule.meter.bytes
+    c.glob_matches.new.meter.bytes c.loop-rule.invariant.bytes (rw c.bytes.ensures.text at c.glob_matches.ensures.cost))

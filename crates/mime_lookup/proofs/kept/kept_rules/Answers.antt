@@ -1,7 +1,8 @@
-use Rattle.std.proofs.Common.{◌≡◌, take, take_all, true, false, sym, ◌∙◌}
+use Rattle.std.proofs.Common.{◌≡◌, ◌+◌, take, take_all, true, false, sym, ◌∙◌, arith}
 use Rattle.mime_base.specs.Kept.{hits}
 use Rattle.mime_base.specs.Matching.Matches.{rule_matches}
 use Rattle.mime_lookup.proofs.OrderLemmas.Hits.{keeps_more, keeps_all, hit_more, miss_more}
+use Rattle.mime_lookup.proofs.IndexLemmas.IndexBytes.{tried-all, tried-more}
 use Rattle.mime_lookup.proofs.kept.kept_rules.Goals as goal
 use Rattle.mime_lookup.proofs.kept.kept_rules.Goals.{then-glob_matches+in_ok-offer, else-glob_matches}
 
@@ -25,6 +26,9 @@ loop-rule-preserved c =
             rw (miss_more rules name i rule c.loop-rule-test.true c.rule-item.is miss, w.best-is) c.loop-rule.invariant.kept)
       ];
       nodes = c.glob_matches.ensures.nodes ∙ c.loop-rule.invariant.nodes;
+      bytes =
+          tried-more rules name i rule c.loop-rule-test.true c.rule-item.is c.args.meter.now.bytes c.loop-rule.meter.bytes
+          c.glob_matches.new.meter.bytes c.loop-rule.invariant.bytes (rw c.bytes.ensures.text at c.glob_matches.ensures.cost);
     }
 
 pub returns-clause-kept : goal.returns-clause-kept
@@ -32,3 +36,12 @@ returns-clause-kept c =
     rw c.into_items.ensures
     (keeps_all c.loop-rule.best c.args.rules.now c.args.name.now
     (rw (take_all c.loop-rule.rule-index c.args.rules.now c.loop-rule-test.false) at c.loop-rule.invariant.kept))
+
+pub returns-in_err-offer-clause-bytes : goal.returns-in_err-offer-clause-bytes
+returns-in_err-offer-clause-bytes c =
+    let rules = c.args.rules.now in
+    let name = c.args.name.now in
+    let i = c.loop-rule.rule-index in
+    tried-all rules name (i + 1) (omega (arith, c.loop-rule-test.true)) c.args.meter.now.bytes c.glob_matches.new.meter.bytes
+    (tried-more rules name i c.rule-item.result c.loop-rule-test.true c.rule-item.is c.args.meter.now.bytes c.loop-rule.meter.bytes
+    c.glob_matches.new.meter.bytes c.loop-rule.invariant.bytes (rw c.bytes.ensures.text at c.glob_matches.ensures.cost))

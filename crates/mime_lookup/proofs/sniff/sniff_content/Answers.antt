@@ -26,3 +26,7 @@ returns-in_ok-front-in-Some-clause-read g c =
     (front_size-known (g.A.Asked.plain c.args.database.now) c.args.host _ _ front read.front.1 limited
     (λ short. read.whole (omega (arith, short, read.front.0, c.front_limit-limit.ensures.limit)))
     _ (read.front.0))
+
+pub returns-in_ok-front-in-Some-clause-bytes : goal.returns-in_ok-front-in-Some-clause-bytes
+returns-in_ok-front-in-Some-clause-bytes g c = λ bounded.
+    rw (c.deref.ensures.value, c.in_ok-front-in-Some.ensures.front.0) at (c.sniff.ensures.bytes bounded)

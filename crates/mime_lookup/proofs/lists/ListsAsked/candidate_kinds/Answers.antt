@@ -20,6 +20,6 @@ pub returns-clause-count : goal.returns-clause-count
 unfolding kept
 returns-clause-count c =
     let step = λ (rule : GlobRule). resolved (pairs_of (plain_database c.args.self.now.database.now)).aliases rule.kind in
-    c.in_ok-found.ensures.kept (subst (All FitsRank) (sym c.deref.ensures.value) c.keeps_limits.ensures)
+    c.in_ok-found.ensures.kept (subst (All FitsRank) (sym c.deref.ensures.value) c.keeps_limits.ensures.ranks)
     ∙ ap (λ (rules : List GlobRule). length (kept_rules rules c.args.name.now)) c.deref.ensures.value
     ∙ sym (length-map (kept_rules c.args.self.now.database.now.rules.items c.args.name.now) step)

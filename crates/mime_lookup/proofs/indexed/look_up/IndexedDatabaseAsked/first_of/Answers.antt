@@ -1,4 +1,6 @@
-use Rattle.std.proofs.Common.{subst}
+use Rattle.std.proofs.Common.{◌+◌, ◌≤◌, length, subst}
+use Rattle.mime_base.specs.Database.Subclass.{Pairs}
+use Rattle.mime_lookup.specs.IndexBytes.{search_bytes}
 use Rattle.std.specs.Prelude.{IfOk}
 use Rattle.mime_lookup.specs.Ancestry.{kinds_of}
 use Rattle.mime_lookup.specs.Choice.{IsFirst}
@@ -13,3 +15,12 @@ returns-clause-first c =
     (indexed_pairs inside.database.now c.args.self.now inside.names inside.pairs inside.heads inside.limit
     c.self.invariant c.self.view_is)
     c.first_at.ensures.first
+
+pub returns-clause-bytes : goal.returns-clause-bytes
+returns-clause-bytes c =
+    let inside = c.self.inside in
+    subst (λ (pairs : Pairs). c.first_at.new.meter.bytes
+    ≤ c.args.meter.now.bytes + search_bytes (length c.args.kinds.now) (length pairs.parents) (length c.args.base.now))
+    (indexed_pairs inside.database.now c.args.self.now inside.names inside.pairs inside.heads inside.limit
+    c.self.invariant c.self.view_is)
+    c.first_at.ensures.bytes
