@@ -7,8 +7,11 @@ pub mod TopLines
 pub mod NotedPairs
 pub mod FoundLines
 pub mod Chains
+pub mod OwnedSums
 pub mod LineBytes
 pub mod Owners
+pub mod NoOwners
+pub mod LongerContents
 pub mod IndexNodes
 pub mod IndexBytes
 pub mod OrderBytes

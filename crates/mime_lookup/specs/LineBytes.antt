@@ -1,5 +1,6 @@
 -- How many bytes an index of magic looks at and compares for a content at most. This project's own.
-use Rattle.std.specs.Prelude.{◌≡◌, refl, ℕ, zero, suc, ◌+◌, ◌*◌, ◌==◌, nat_lt, min, if◌then◌else◌, List, [], ◌∷◌, length, map, slice_index, None, codes}
+use Rattle.std.specs.Prelude.{◌≡◌, refl, ℕ, zero, suc, ◌+◌, ◌*◌, ◌==◌, nat_lt, min, if◌then◌else◌}
+use Rattle.std.specs.Prelude.{List, [], ◌∷◌, length, map, slice_index, None, codes}
 use Rattle.std.specs.List.{sum_by}
 use Rattle.mime_base.specs.Magic.WindowBytes.{forest_bytes, line_bytes, window_bytes, windows_in}
 use Rattle.mime_base.specs.Magic.{bare, line, line_from}

@@ -1,10 +1,10 @@
 -- Lines have one owner each, as they are named by tables or listed with the others, the last first.
-use Rattle.std.proofs.Common.{◌≡◌, ℕ, ◌+◌, ◌*◌, ◌<◌, ◌≤◌, inl, inr, cond, List, [], ◌∷◌, ◌++◌, length, get_or, replicate, refl, sym, ap, ◌∙◌, arith}
+use Rattle.std.proofs.Common.{◌≡◌, ℕ, ◌+◌, ◌*◌, ◌<◌, ◌≤◌, inl, inr, cond, List, [], ◌∷◌, ◌++◌, length, get_or, refl, sym, ap, ◌∙◌, arith}
 use Rattle.std.proofs.Common.{eq-eqb, length-append}
 use Rattle.std.proofs.Math.Dec.{eqb}
 use Rattle.std.proofs.Math.ListN.{get_or-append, set}
 use Rattle.std.proofs.lemmas.Bool.{cases_eq, cases_lt, cond-false, cond-true, ne_eqb}
-use Rattle.std.proofs.lemmas.List.{get_or-replicate, get_or-set_other, get_or-set_same, get_or_past, get_or_push, length-replicate}
+use Rattle.std.proofs.lemmas.List.{get_or-set_other, get_or-set_same, get_or_push}
 use Rattle.mime_lookup.specs.Tables.{OwnsLines, OwnsOthers}
 use Rattle.mime_lookup.specs.declared.indexed.tables.Tables.{Tables}
 
@@ -148,25 +148,3 @@ module _ (old new : Tables) (owner : ℕ → ℕ) (lines first : ℕ) (owns : Ow
         | inr past ↦ omega (arith, here_it i (omega (arith, past, within, length-append old.others.items (first ∷ []))))
       ]);
     }
-
--- before a line is named or listed: no line has an owner
-pub owns-none : (tables : Tables) (lines : ℕ) → length tables.places.items ≤ lines → ((slot : ℕ) → get_or tables.firsts.items slot 0 ≡ 0) →
-    length tables.nexts.items ≡ lines → length tables.others.items ≡ 0 → OwnsLines tables (λ _. 0) lines lines
-owns-none tables lines few zeros size none = record {
-  few = few;
-  named = λ t b line below is. absurd (omega (arith, is, zeros (t * 256 + b)));
-  next = λ line after low owned is. absurd (omega (arith, is, get_or_past tables.nexts.items line 0 (omega (arith, size, low))));
-  others = record {
-    own = λ i within. absurd (omega (arith, within, none));
-    inside = λ i within. absurd (omega (arith, within, none));
-    falls = λ i within. absurd (omega (arith, within, none));
-  };
-  late = λ i within. absurd (omega (arith, within, none));
-}
-
--- a list of zeros has no other number
-pub only_zeros : (xs : List ℕ) (n : ℕ) → xs ≡ replicate n 0 → (slot : ℕ) → get_or xs slot 0 ≡ 0
-only_zeros xs n are slot = elim (cases_lt slot n) [
-  | inl inside ↦ ap (λ (ys : List ℕ). get_or ys slot 0) are ∙ get_or-replicate n slot 0 0 inside
-  | inr past ↦ get_or_past xs slot 0 (omega (arith, past, ap (λ (ys : List ℕ). length ys) are, length-replicate {A = ℕ} n 0))
-]

@@ -72,7 +72,8 @@ fn among_tables<S: MagicLines<L>, L: Drop>(
     ensures nodes { meter.new.nodes ≡ meter.old.nodes }
     ensures bytes { (owner : ℕ → ℕ) → OwnsLines tables.now owner (length asked.now.tops.now) 0
         → meter.new.bytes ≤ meter.old.bytes + length tables.now.places.items
-        + tables_bytes (length asked.now.content.now) (plain_tops (S.plain asked.now.source.now) asked.now.tops.now) owner (length tables.now.places.items) }
+        + tables_bytes (length asked.now.content.now) (plain_tops (S.plain asked.now.source.now) asked.now.tops.now)
+        owner (length tables.now.places.items) }
 {
     meter.add_bytes(tables.places.len() as u64);
     let mut first = asked.tops.len();
@@ -98,7 +99,8 @@ fn in_table<S: MagicLines<L>, L: Drop>(
     ensures fail { TableFails (plain_tops (S.plain asked.now.source.now) asked.now.tops.now) asked.now.content.now asked.now.host tables.now result table }
     ensures nodes { meter.new.nodes ≡ meter.old.nodes }
     ensures bytes { (owner : ℕ → ℕ) → OwnsLines tables.now owner (length asked.now.tops.now) 0
-        → meter.new.bytes ≤ meter.old.bytes + table_bytes (length asked.now.content.now) (plain_tops (S.plain asked.now.source.now) asked.now.tops.now) owner table }
+        → meter.new.bytes ≤ meter.old.bytes
+        + table_bytes (length asked.now.content.now) (plain_tops (S.plain asked.now.source.now) asked.now.tops.now) owner table }
 {
     let bytes = asked.content.bytes();
     let place = tables.places[table] as usize;
@@ -125,7 +127,8 @@ fn in_chain<S: MagicLines<L>, L: Drop>(
     ensures fail { ChainFails (plain_tops (S.plain asked.now.source.now) asked.now.tops.now) asked.now.content.now asked.now.host nexts.now named result }
     ensures nodes { meter.new.nodes ≡ meter.old.nodes }
     ensures bytes { (owner : ℕ → ℕ) (this : ℕ) → LeadsOwn nexts.now owner this named
-        → meter.new.bytes ≤ meter.old.bytes + table_bytes (length asked.now.content.now) (plain_tops (S.plain asked.now.source.now) asked.now.tops.now) owner this }
+        → meter.new.bytes ≤ meter.old.bytes
+        + table_bytes (length asked.now.content.now) (plain_tops (S.plain asked.now.source.now) asked.now.tops.now) owner this }
 {
     let (mut low, mut link) = (0, usize::from(named));
     while low < link && link <= until {
@@ -154,7 +157,8 @@ fn among_others<S: MagicLines<L>, L: Drop>(
     ensures fail { OthersFail (plain_tops (S.plain asked.now.source.now) asked.now.tops.now) asked.now.content.now asked.now.host others.now result 0 }
     ensures nodes { meter.new.nodes ≡ meter.old.nodes }
     ensures bytes { (owner : ℕ → ℕ) (this : ℕ) → OwnsOthers others.now owner this (length asked.now.tops.now)
-        → meter.new.bytes ≤ meter.old.bytes + table_bytes (length asked.now.content.now) (plain_tops (S.plain asked.now.source.now) asked.now.tops.now) owner this }
+        → meter.new.bytes ≤ meter.old.bytes
+        + table_bytes (length asked.now.content.now) (plain_tops (S.plain asked.now.source.now) asked.now.tops.now) owner this }
 {
     meter.add_bytes(others.len() as u64);
     let (mut first, mut at) = (until, others.len());

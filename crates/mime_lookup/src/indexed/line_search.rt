@@ -47,8 +47,8 @@ pub fn line_holds<S: MagicLines<L>, L: Drop>(
     // No record of a cache is visited.
     ensures nodes { meter.new.nodes ≡ meter.old.nodes }
     // With one for the line, it looks at no more than asking it may.
-    ensures bytes { meter.new.bytes + 1
-        ≤ meter.old.bytes + asked_bytes (length asked.now.content.now) (plain_tops (S.plain asked.now.source.now) asked.now.tops.now) line }
+    ensures bytes { meter.new.bytes + 1 ≤ meter.old.bytes
+        + asked_bytes (length asked.now.content.now) (plain_tops (S.plain asked.now.source.now) asked.now.tops.now) line }
 {
     if refuses(&asked.heads[line], asked.content, meter) {
         return false;

@@ -1,7 +1,7 @@
 use Rattle.std.proofs.Common.{◌≡◌, length, arith, ap, rules}
 use Rattle.std.proofs.lemmas.Grind.{common_steps}
 use Rattle.mime_base.specs.declared.meter.Meter.{Meter}
-use Rattle.mime_lookup.proofs.IndexLemmas.LineBytes.{sum_before-next}
+use Rattle.mime_lookup.proofs.IndexLemmas.OwnedSums.{sum_before-next}
 use Rattle.mime_lookup.specs.LineBytes.{asked_bytes, tables_bytes}
 use Rattle.mime_lookup.specs.TopLines.{plain_tops}
 use Rattle.mime_lookup.proofs.indexed.first_line.among_tables.Goals as goal

@@ -2,7 +2,8 @@ use Rattle.std.proofs.Common.{◌≡◌, ◌+◌, ◌-◌, inl, inr, arith, ap, 
 use Rattle.std.proofs.lemmas.List.{length-map}
 use Rattle.mime_base.specs.declared.meter.Meter.{Meter}
 use Rattle.mime_lookup.proofs.IndexLemmas.Chains.{leads-next, leads-onward, none-leads}
-use Rattle.mime_lookup.proofs.IndexLemmas.LineBytes.{owned_sum-more, table_bytes-line}
+use Rattle.mime_lookup.proofs.IndexLemmas.LineBytes.{table_bytes-line}
+use Rattle.mime_lookup.proofs.IndexLemmas.OwnedSums.{owned_sum-more}
 use Rattle.mime_lookup.specs.LineBytes.{asked_bytes, owned_sum}
 use Rattle.mime_lookup.specs.TopLines.{plain_top, plain_tops}
 use Rattle.mime_lookup.proofs.indexed.first_line.in_chain.Goals as goal

@@ -4,7 +4,8 @@ use Rattle.mime_lookup.specs.Tables.{AreTables, OwnsLines}
 use Rattle.mime_lookup.specs.declared.indexed.tables.Tables.{Tables}
 use Rattle.mime_lookup.proofs.IndexLemmas.FoundLines.{no_head}
 use Rattle.mime_lookup.proofs.IndexLemmas.Chains.{tables_apart, tables_linked}
-use Rattle.mime_lookup.proofs.IndexLemmas.Owners.{only_zeros, owner_with, owns-apart, owns-linked, owns-none}
+use Rattle.mime_lookup.proofs.IndexLemmas.Owners.{owner_with, owns-apart, owns-linked}
+use Rattle.mime_lookup.proofs.IndexLemmas.NoOwners.{only_zeros, owns-none}
 use Rattle.mime_lookup.proofs.indexed.tables.tables_of.Goals as goal
 
 pub loop-line-preserved-in-Some : goal.loop-line-preserved-in-Some
