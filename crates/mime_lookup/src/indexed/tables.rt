@@ -15,6 +15,9 @@ use std::alloc::Global;
 /// The most tables that are made: a table takes half a kilobyte, and real lines have some forty places.
 const MOST: usize = 256;
 
+/// The number of a place's table is noted by the place's remainder: few real lines have places that share one.
+const REMAINDERS: usize = 256;
+
 /// Lines from this one on are asked by themselves.
 const LAST: usize = 65_535;
 
@@ -72,10 +75,13 @@ fn places_of(
     ensures size { length numbers.new.items ≡ length heads.now }
 {
     let mut places = Vec::new(alloc);
+    let mut noted = [0; REMAINDERS];
     for line in 0..heads.len() {
         let head = &heads[line];
         if head.range == 1 && head.size > 0 {
-            let table = table_at(&places, head.start);
+            let remainder = head.start as usize % REMAINDERS;
+            let table = table_at(&places, usize::from(noted[remainder]), head.start);
+            noted[remainder] = table as u16;
             numbers[line] = table as u16;
             if table == places.len() && table < MOST {
                 places.push(head.start)?;
@@ -85,12 +91,15 @@ fn places_of(
     Ok(places)
 }
 
-/// The number of the first table of a place, else the number of tables.
+/// The number of a table of a place, this one if it is, else the number of tables.
 #[inline]
-fn table_at(places: &[u32], place: u32) -> usize
+fn table_at(places: &[u32], noted: usize, place: u32) -> usize
     ensures within { result ≤ length places.now }
     ensures place { result < length places.now → slice_index places.now result ≡ place }
 {
+    if noted < places.len() && places[noted] == place {
+        return noted;
+    }
     for table in 0..places.len() {
         if places[table] == place {
             return table;

@@ -26,7 +26,7 @@ pub fn tops_of<'a>(
     // These are the lines of indent 0, in their order.
     ensures { IfOk result (λ tops. plain_tops lent_matchlet tops.items ≡ top_lines (plain_sections sections.entry.now)) }
 {
-    let mut tops = Vec::new(alloc);
+    let mut tops = Vec::with_capacity(alloc, sections.len())?;
     for section in sections {
         push_tops(&mut tops, section)?;
     }
