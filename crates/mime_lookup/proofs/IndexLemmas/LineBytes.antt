@@ -1,6 +1,6 @@
 -- What lines add to what is looked at for a content, by the table that owns each.
-use Rattle.std.proofs.Common.{◌≡◌, ℕ, zero, suc, ◌+◌, ◌*◌, ◌<◌, ◌≤◌, Bool, true, false, cond, min}
-use Rattle.std.proofs.Common.{List, [], length, get_or, map, take, None, ap, arith}
+use Rattle.std.proofs.Common.{◌≡◌, ℕ, zero, suc, ◌+◌, ◌<◌, ◌≤◌, Bool, true, false, cond, min}
+use Rattle.std.proofs.Common.{List, [], length, get_or, take, None, ap, arith}
 use Rattle.std.proofs.Math.Dec.{ltb}
 use Rattle.std.proofs.lemmas.List.Sums.{sum_by_more}
 use Rattle.std.proofs.lemmas.List.{get_or-map, get_or_default, take_all}

@@ -1,8 +1,7 @@
 -- What is looked at for a content is no less for a longer one.
-use Rattle.std.proofs.Common.{ℕ, ◌+◌, ◌-◌, ◌*◌, ◌≤◌, min, List, length, arith}
+use Rattle.std.proofs.Common.{ℕ, ◌≤◌, List, length, arith}
 use Rattle.std.proofs.Math.Nat.{mul-le-mul_right}
 use Rattle.std.proofs.lemmas.List.Sums.{sum_by-le-sum_by}
-use Rattle.std.specs.List.{sum_by}
 use Rattle.mime_base.specs.Magic.WindowBytes.{forest_bytes, window_bytes, windows_in}
 use Rattle.mime_base.specs.Magic.{Forest, PlainLine, bare, line}
 use Rattle.mime_lookup.specs.LineBytes.{index_bytes, top_bytes}
