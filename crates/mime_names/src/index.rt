@@ -6,7 +6,8 @@ ghost use Rattle.mime_base.specs.Kept.{FitsRank};
 ghost use Rattle.mime_names.specs.Near.{is_mostly_general};
 ghost use Rattle.mime_names.specs.Rules.{of_texts, own_named, plain_named};
 
-use crate::indexed_rule::{IndexedRule, IndexedRules, indexed_rules};
+use crate::indexed_rule::IndexedRule;
+use crate::indexed_rules::IndexedRules;
 use crate::keys::{KeyTable, key_table};
 use crate::named_rule::NamedRule;
 use mime_base::{Class, OutOfMemory};
@@ -47,7 +48,19 @@ impl<'a> NameIndex<'a> {
         // It is the index over these rules.
         ensures { IfOk result (λ index. index ≡ record { given = map plain_named rules.now; own = map own_named rules.now }) }
     {
-        let IndexedRules { rules, patterns } = indexed_rules(alloc, rules)?;
+        let mut all = IndexedRules::new(alloc, rules.len())?;
+        for place in 0..rules.len() {
+            all = all.with(rules[place])?;
+        }
+        NameIndex::of_rules(alloc, all)
+    }
+
+    /// The index over these rules.
+    pub fn of_rules(alloc: Global, rules: IndexedRules<'a>) -> Result<NameIndex<'a>, OutOfMemory>
+        // It is the index over just these.
+        ensures { IfOk result (λ index. index ≡ rules.entry) }
+    {
+        let IndexedRules { rules, patterns } = rules;
         let table = key_table(alloc, &patterns, &rules)?;
         let general = count_general(&rules);
         Ok(NameIndex {

@@ -1,15 +1,11 @@
-//! Rules with what is found of each once, and their patterns in one text.
+//! A rule with what is found of it once, whose pattern stands in a text with those of others.
 
-ghost use Rattle.std.specs.Prelude.{◌≡◌, ◌+◌, ◌*◌, ◌<◌, ◌≤◌, true, ℕ, List, ◌∷◌, get_or, length, map, IfOk};
-ghost use Rattle.std.specs.List.{All};
-ghost use Rattle.mime_base.specs.Kept.{FitsRank};
+ghost use Rattle.std.specs.Prelude.{◌≡◌, ◌+◌, ◌*◌, ◌<◌, ◌≤◌, true, ℕ, List, ◌∷◌, get_or, length};
 ghost use Rattle.mime_base.specs.Matching.Matches.{rule_matches};
-ghost use Rattle.mime_names.specs.Rules.{IsEntryOf, IsIndexedRule, is_match, of_texts, own_named, own_plain, pattern_of, plain, plain_named};
+ghost use Rattle.mime_names.specs.Rules.{IsIndexedRule, is_match, of_texts, pattern_of};
 
 use crate::ending::ends_so;
-use crate::named_rule::NamedRule;
-use mime_base::{Class, Meter, OutOfMemory, class_of_bytes, glob_matches, rank_of};
-use std::alloc::Global;
+use mime_base::{Class, Meter, glob_matches};
 
 /// A rule with its class and its rank. Its pattern stands in a text with those of all others.
 #[derive(Debug, Drop)]
@@ -30,69 +26,6 @@ pub struct IndexedRule<'a> {
     pub cased: bool,
     /// The class of its pattern.
     pub class: Class,
-}
-
-/// Rules, and the text in which their patterns stand.
-#[derive(Drop)]
-pub struct IndexedRules<'a> {
-    /// The rules.
-    pub rules: Vec<IndexedRule<'a>>,
-    /// Their patterns.
-    pub patterns: Vec<u8>,
-}
-
-/// Each rule with its class and its rank.
-pub fn indexed_rules<'p, 'a>(
-    alloc: Global,
-    named: &[NamedRule<'p, 'a>],
-) -> Result<IndexedRules<'a>, OutOfMemory>
-    // Each rule has a weight and a pattern that a rank can hold.
-    requires limits { All FitsRank (map plain_named named.now) }
-    // Each has its own pattern, class and rank.
-    ensures own { IfOk result (λ all. All (IsIndexedRule all.patterns.items) all.rules.items) }
-    // They are these rules, in their order, with the types that these give.
-    ensures rules { IfOk result (λ all. map (plain all.patterns.items) all.rules.items ≡ map plain_named named.now) }
-    // They have the types that these have.
-    ensures own_kinds { IfOk result (λ all. map (own_plain all.patterns.items) all.rules.items ≡ map own_named named.now) }
-{
-    let mut rules = Vec::with_capacity(alloc, named.len())?;
-    let mut patterns = Vec::new(alloc);
-    for place in 0..named.len() {
-        let lent = named_at(named, place);
-        let rule = indexed_rule(lent, patterns.len());
-        patterns.extend_from_slice(lent.pattern)?;
-        rules.push_reserved(rule);
-    }
-    Ok(IndexedRules { rules, patterns })
-}
-
-/// The rule at a place.
-#[inline]
-fn named_at<'b, 'p, 'a>(named: &'b [NamedRule<'p, 'a>], place: usize) -> &'b NamedRule<'p, 'a>
-    requires { place < length named.now }
-    ensures { result.now ≡ get_or named.now place result.now }
-{
-    &named[place]
-}
-
-/// A rule with its class and its rank, whose pattern begins at a place.
-#[inline]
-fn indexed_rule<'a>(named: &NamedRule<'_, 'a>, start: usize) -> IndexedRule<'a>
-    requires limits { FitsRank (plain_named named.now) }
-    ensures { IsEntryOf named.now start result }
-{
-    let pattern = named.pattern;
-    let class = class_of_bytes(pattern);
-    IndexedRule {
-        kind: named.kind,
-        own_kind: named.own_kind,
-        start,
-        length: pattern.len(),
-        rank: rank_of(class, named.weight, pattern.len() as u16, named.cased),
-        weight: named.weight,
-        cased: named.cased,
-        class,
-    }
 }
 
 /// The rule at a place.

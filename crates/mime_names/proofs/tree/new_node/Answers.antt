@@ -1,16 +1,14 @@
 use Rattle.std.proofs.Common.{◌≡◌, ◌+◌, refl, arith}
 use Rattle.std.specs.Vec.{with_item}
-use Rattle.mime_names.specs.Tree.{next_of}
 use Rattle.mime_names.proofs.SlotLemmas.{step-made}
-use Rattle.mime_names.proofs.tree.next_node.Goals as goal
+use Rattle.mime_names.proofs.tree.new_node.Goals as goal
 
 pub returns-clause-steps : goal.returns-clause-steps
 returns-clause-steps c =
-    let none : next_of c.args.tree.now c.args.node c.args.symbol ≡ 0 = omega (arith, c.next_of-next.ensures.next, c.if-next-gt0.false) in
     step-made c.args.tree.now c.row_of.new.tree record {
       starts = c.push.new.self;
       slots =
           with_item c.row_of.new.tree.slots (c.in_ok-row.row + c.args.symbol) c.in-Ok.new;
     }
-    c.args.node c.args.symbol c.in_ok-row.row c.in-Ok.new c.in_ok-row.ensures c.requires.symbol none c.in_ok-push.ensures.items refl
+    c.args.node c.args.symbol c.in_ok-row.row c.in-Ok.new c.in_ok-row.ensures c.requires.symbol c.requires.none c.in_ok-push.ensures.items refl
     (omega (arith, c.in-Ok.ensures, c.len.ensures, c.in_ok-row.ensures.many))
