@@ -1,4 +1,4 @@
--- Worked rows of the records that a lookup may take and of the types that are fixed, which compute.
+-- Worked rows of the records that a lookup may take, of the types that are fixed and of the marks of names, which compute.
 use Rattle.std.specs.Prelude.{◌≡◌, ℕ, ◌+◌, ◌*◌, true, false, refl, codes, List, [], ◌∷◌, ◌++◌, get_or, length, None}
 use Rattle.std.specs.List.{list_all}
 use Rattle.mime_base.specs.Database.{PlainDatabase}
@@ -9,6 +9,7 @@ use Rattle.mime_base.specs.Names.{is_type_name}
 use Rattle.mime_base.specs.declared.database.rule.GlobRule.{GlobRule}
 use Rattle.mime_lookup.specs.Affords.{magic_records, rule_records}
 use Rattle.mime_lookup.specs.Cached.{fixed_kinds}
+use Rattle.mime_lookup.specs.Marks.{mark}
 use Rattle.mime_lookup.specs.Sniffing.{sniffed_by_bytes}
 
 -- a rule of a pattern
@@ -73,3 +74,18 @@ fixed_are_three = refl
 fixed_are_types : list_all is_type_name fixed_kinds ≡ true
 unfolding is_type_name
 fixed_are_types = refl
+
+-- a name of fewer than four bytes has the first mark
+mark_short : mark (codes "t/t") ≡ 0
+unfolding mark
+mark_short = refl
+
+-- `p`, `a`, `a` and `n` of ten bytes: 112, 97, 97 and 110
+mark_plain : mark (codes "text/plain") ≡ 8598
+unfolding mark
+mark_plain = refl
+
+-- the slash, `x`, `x` and `c` of eight bytes: 47, 120, 120 and 99
+mark_source : mark (codes "text/x-c") ≡ 12418
+unfolding mark
+mark_source = refl

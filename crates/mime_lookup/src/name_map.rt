@@ -5,9 +5,11 @@
 
 pub mod marks;
 
-ghost use Rattle.std.specs.Prelude.{◌≡◌, List, ℕ, Some, None, bytes_eq, option_copied, slice_get, IfOk, OnOk};
+ghost use Rattle.std.specs.Prelude.{◌≡◌, ◌<◌, List, ℕ, Some, None, bytes_eq, get_or, option_copied, slice_get, IfOk, OnOk};
+ghost use Rattle.std.specs.HashMap.{get_by};
 ghost use Rattle.std.specs.Map.{update};
-ghost use Rattle.mime_lookup.specs.NameMap.{IsNameMap, entry_of, number_of, value_in};
+ghost use Rattle.mime_lookup.specs.Marks.{mark};
+ghost use Rattle.mime_lookup.specs.NameMap.{IsNameMap, entry_of, other_of, value_in};
 
 use crate::name_map::marks::{MARKS, mark_of};
 use indexmap::IndexMap;
@@ -55,13 +57,14 @@ pub fn new_map<'a, V: Copy>(alloc: Global, room: usize) -> Result<NameMap<'a, V>
     })
 }
 
-/// The number of the entry that a name's mark leads to.
+/// The number of the entry that a mark leads to.
 #[inline]
-fn number_of<V: Copy>(map: &NameMap<'_, V>, name: &[u8]) -> usize
-    requires { IsNameMap map.now }
-    ensures { result ≡ number_of map.now.numbers.items name.now }
+fn number_at<V: Copy>(map: &NameMap<'_, V>, at: usize) -> usize
+    requires map { IsNameMap map.now }
+    requires within { at < 16384 }
+    ensures { result ≡ get_or map.now.numbers.items at 65535 }
 {
-    usize::from(map.numbers[mark_of(name)])
+    usize::from(map.numbers[at])
 }
 
 /// The entry of a number.
@@ -80,17 +83,27 @@ pub fn value_of<V: Copy>(map: &NameMap<'_, V>, name: &[u8]) -> Option<V>
     // It is the value that the map has for it.
     ensures { result ≡ value_in map.now name.now }
 {
-    let Some(entry) = entry_at(map, number_of(map, name)) else {
+    let number = number_at(map, mark_of(name));
+    let Some(entry) = entry_at(map, number) else {
         return None;
     };
     if entry.name == name {
         return Some(entry.value);
     }
     if entry.shared {
-        map.others.get(name).copied()
+        other_value(map, name)
     } else {
         None
     }
+}
+
+/// The value of a name that has no entry.
+// Never inlined: few names share a mark.
+#[inline(never)]
+fn other_value<V: Copy>(map: &NameMap<'_, V>, name: &[u8]) -> Option<V>
+    ensures { result ≡ other_of map.now name.now }
+{
+    map.others.get(name).copied()
 }
 
 /// Gives a value to a name, and returns the one that it had.
@@ -109,9 +122,10 @@ pub fn put_value<'a, V: Copy>(
     // It is the value that the name had.
     ensures old { IfOk result (λ old. old ≡ value_in map.old name.entry.now) }
 {
-    let number = number_of(map, name);
+    let at = mark_of(name);
+    let number = number_at(map, at);
     let Some(entry) = entry_at(map, number).copied() else {
-        add_entry(map, name, value)?;
+        add_entry(map, at, name, value)?;
         return Ok(None);
     };
     if entry.name == name {
@@ -119,17 +133,36 @@ pub fn put_value<'a, V: Copy>(
         return Ok(Some(entry.value));
     }
     map.entries[number].shared = true;
-    let old = map.others.insert(name, value)?;
+    let old = put_other(&mut map.others, name, value)?;
+    Ok(old)
+}
+
+/// Gives a value to a name that has no entry, and returns the one that it had.
+// Never inlined: few names share a mark.
+#[inline(never)]
+fn put_other<'a, V: Copy>(
+    others: &mut IndexMap<&'a [u8], V>,
+    name: &'a [u8],
+    value: V,
+) -> Result<Option<V>, OutOfMemory>
+    ensures updates { OnOk result ((other : List ℕ) → get_by (λ key. bytes_eq other key.now) others.new
+        ≡ update bytes_eq (λ n. get_by (λ key. bytes_eq n key.now) others.old) name.entry.now (Some value) other) }
+    ensures old { IfOk result (λ old. old ≡ get_by (λ key. bytes_eq name.entry.now key.now) others.old) }
+{
+    let old = others.insert(name, value)?;
     Ok(old)
 }
 
 /// Adds the first name of a mark.
 fn add_entry<'a, V: Copy>(
     map: &mut NameMap<'a, V>,
+    at: usize,
     name: &'a [u8],
     value: V,
 ) -> Result<(), OutOfMemory>
     requires map { IsNameMap map.old }
+    requires mark { at ≡ mark name.now }
+    requires within { at < 16384 }
     requires first { entry_of map.old name.now ≡ None }
     ensures valid { OnOk result (IsNameMap map.new) }
     ensures updates { OnOk result ((other : List ℕ) →
@@ -145,6 +178,6 @@ fn add_entry<'a, V: Copy>(
         value,
         shared: false,
     })?;
-    map.numbers[mark_of(name)] = number as u16;
+    map.numbers[at] = number as u16;
     Ok(())
 }

@@ -1,4 +1,4 @@
-//! Marks of names: a number of their last bytes and their length, by which most names are told from all others.
+//! Marks of names: a number of four of their bytes and their length, by which most names are told from all others.
 
 ghost use Rattle.std.specs.Prelude.{◌≡◌, ◌<◌};
 ghost use Rattle.mime_lookup.specs.Marks.{mark};
@@ -19,9 +19,9 @@ pub fn mark_of(name: &[u8]) -> usize
     if size < 4 {
         return 0;
     }
-    let fourth = usize::from(name[size - 4]);
+    let middle = usize::from(name[size / 2]);
+    let later = usize::from(name[size - 1 - size / 4]);
     let third = usize::from(name[size - 3]);
-    let second = usize::from(name[size - 2]);
     let last = usize::from(name[size - 1]);
-    (((fourth * 31 + third) * 31 + second) * 31 + last + size % 256 * 7) % 16384
+    (((middle * 9 + later) * 9 + third) * 9 + last + size % 256 * 3) % 16384
 }

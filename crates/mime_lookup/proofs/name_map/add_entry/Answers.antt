@@ -8,6 +8,6 @@ returns-clause-updates g c =
     let map = c.args.map.now in
     let number : c.len-number.result ≡ length map.entries.items = omega (arith, c.len-number.ensures, map.entries.ok.0) in
     rw (c.in_ok-push.ensures.items, number)
-    (updates-added map.numbers.items map.entries.items _ c.mark_of.result (omega (arith, c.mark_of.ensures.within, c.requires.map.many))
+    (updates-added map.numbers.items map.entries.items _ c.args.at (omega (arith, c.requires.within, c.requires.map.many))
     (omega (arith, number, c.from.ensures, c.if-number-from.false)) c.requires.map.empty (other_of map) c.args.name.now
-    c.mark_of.ensures.mark c.requires.first refl)
+    c.requires.mark c.requires.first refl)
