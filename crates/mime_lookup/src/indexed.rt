@@ -80,7 +80,7 @@ impl<'a> IndexedDatabase<'a> {
         let parents = places_of(alloc, &database.parents)?;
         database_keeps_limits(database);
         let rules = lent_rules(alloc, &database.rules, &aliases)?;
-        let names = NameIndex::new(alloc, &rules)?;
+        let names = NameIndex::of_rules(alloc, rules)?;
         let tops = tops_of(alloc, &database.sections)?;
         let heads = heads_of(alloc, Matchlets, tops)?;
         Ok(IndexedDatabase {
