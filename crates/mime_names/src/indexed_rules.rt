@@ -10,6 +10,9 @@ use mime_base::{OutOfMemory, class_of_bytes, rank_of};
 use std::alloc::Global;
 use std::marker::Model;
 
+/// As many bytes as most patterns have at most.
+const USUAL: usize = 8;
+
 /// Rules that an index is made of, whose types are lent. This project's own.
 #[derive(Drop)]
 pub struct IndexedRules<'a> {
@@ -38,10 +41,8 @@ impl<'a> IndexedRules<'a> {
         ensures { IfOk result (λ all. all ≡ record { given = []; own = [] }) }
     {
         let rules = Vec::with_capacity(alloc, room)?;
-        Ok(IndexedRules {
-            rules,
-            patterns: Vec::new(alloc),
-        })
+        let patterns = Vec::with_capacity(alloc, room.saturating_mul(USUAL))?;
+        Ok(IndexedRules { rules, patterns })
     }
 
     /// These rules and one more.
