@@ -49,10 +49,11 @@ module _ (patterns : List ℕ) (rules : List IndexedRule) (table : KeyTable) {ge
   abbrev is_text : ℕ → Bool
   is_text = is_text_at patterns rules
 
-  -- the bytes of a rule that is none, by the rules of the index and by those that it gives
+  -- the bytes of a rule that is none, by the rules of the index
   abbrev own_each : ℕ
   own_each = rule_bytes (length name) (longest (rules_of_index patterns rules))
 
+  -- and by those that it gives
   abbrev each : ℕ
   each = rule_bytes (length name) (longest all)
 

@@ -1,12 +1,12 @@
 -- Rules whose patterns stand in one text, to which others are added.
 use Rattle.std.proofs.Common.{◌≡◌, ℕ, suc, ◌+◌, ◌≤◌, List, [], ◌∷◌, ◌++◌, length, take, take_all, drop, map, refl, sym, ap, ap₂, subst, ◌∙◌, arith}
 use Rattle.std.specs.List.{All}
-use Rattle.std.proofs.lemmas.List.{drop-append-le, length-append, length-drop, map-append, take-append-le}
+use Rattle.std.proofs.lemmas.List.{append-nil, drop-append-le, length-append, length-drop, map-append, take-append-le}
 use Rattle.std.proofs.lemmas.List.Elements.{All-push, All-weaker}
 use Rattle.std.proofs.Math.Seq.{drop-append_seam}
 use Rattle.mime_base.specs.Kept.{FitsRank, class_of, rank_of_rule}
 use Rattle.mime_base.specs.declared.database.rule.GlobRule.{GlobRule}
-use Rattle.mime_names.specs.Rules.{IsEntryOf, IsIndexedRule, own_named, own_plain, pattern_of, plain, plain_named}
+use Rattle.mime_names.specs.Rules.{AddsPattern, IsEntryOf, IsIndexedRule, own_named, own_plain, pattern_of, plain, plain_named}
 use Rattle.mime_names.specs.declared.indexed_rule.IndexedRule.{IndexedRule}
 use Rattle.mime_names.specs.declared.named_rule.NamedRule.{NamedRule}
 
@@ -69,27 +69,42 @@ module _ (old more : List ℕ) where
       map-append (own_plain (old ++ more)) rules (rule ∷ [])
       ∙ ap₂ (λ front own. front ++ own ∷ []) (values-grow (own_plain old) (own_plain (old ++ more)) own-grows rules own ∙ are) is
 
-module _ (old : List ℕ) (named : NamedRule) (rule : IndexedRule) (start : ℕ) (entry : IsEntryOf named start rule)
-    (last : rule.start ≡ length old) where
-  -- the pattern that comes last
-  pattern-last : pattern_of (old ++ named.pattern.now) rule ≡ named.pattern.now
-  pattern-last =
-      ap (λ n. take rule.length (drop n (old ++ named.pattern.now))) last
-      ∙ ap (take rule.length) (drop-append_seam old named.pattern.now)
-      ∙ take_all rule.length named.pattern.now (omega (arith, entry.size))
+-- a pattern that is added stands at the end, or where it was
+pub adds-last : (old pattern : List ℕ) → AddsPattern pattern old (old ++ pattern) (length old)
+adds-last old pattern = record {
+  more = pattern;
+  grows = refl;
+  stands = ap (take (length pattern)) (drop-append_seam old pattern) ∙ take_all (length pattern) pattern (omega arith);
+  within = omega (arith, length-append old pattern);
+}
+
+-- where it was nothing is added
+pub adds-none : (old pattern : List ℕ) (start : ℕ) → start ≤ length old → drop start old ≡ pattern → AddsPattern pattern old old start
+adds-none old pattern start low is = record {
+  more = [];
+  grows = sym (append-nil old);
+  stands = ap (take (length pattern)) is ∙ take_all (length pattern) pattern (omega arith);
+  within = omega (arith, low, length-drop start old, ap length is);
+}
+
+module _ (old new : List ℕ) (named : NamedRule) (rule : IndexedRule) (start : ℕ) (entry : IsEntryOf named start rule)
+    (added : AddsPattern named.pattern.now old new start) where
+  -- the pattern that was added
+  pattern-last : pattern_of new rule ≡ named.pattern.now
+  pattern-last = ap₂ (λ size from. take size (drop from new)) entry.size entry.begins ∙ added.stands
 
   -- its rule has the plain value of the one that it was made of
-  pub plain-last : plain (old ++ named.pattern.now) rule ≡ plain_named named
+  pub plain-last : plain new rule ≡ plain_named named
   plain-last = λ k. record { weight = entry.weight k; kind = (entry.kind k).now; pattern = pattern-last k; cased = entry.cased k }
 
   -- with its own type too
-  pub own-last : own_plain (old ++ named.pattern.now) rule ≡ own_named named
+  pub own-last : own_plain new rule ≡ own_named named
   own-last = λ k. record { weight = entry.weight k; kind = (entry.own_kind k).now; pattern = pattern-last k; cased = entry.cased k }
 
   -- and is found as it is made
-  pub indexed-last : FitsRank (plain_named named) → IsIndexedRule (old ++ named.pattern.now) rule
+  pub indexed-last : FitsRank (plain_named named) → IsIndexedRule new rule
   indexed-last fits = record {
-    within = omega (arith, last, entry.size, length-append old named.pattern.now);
+    within = omega (arith, entry.begins, entry.size, added.within);
     class = entry.class ∙ ap class_of (sym pattern-last);
     rank = entry.rank ∙ ap rank_of_rule (sym plain-last);
     fits = subst FitsRank (sym plain-last) fits;

@@ -1,5 +1,5 @@
 -- Rules as an index has them: their patterns stand in one text.
-use Rattle.std.specs.Prelude.{◌≡◌, ℕ, ◌+◌, ◌≤◌, Bool, true, false, not, ◌&&◌, List, length, take, drop, filter}
+use Rattle.std.specs.Prelude.{◌≡◌, ℕ, ◌+◌, ◌≤◌, Bool, true, false, not, ◌&&◌, List, ◌++◌, length, take, drop, filter}
 use Rattle.std.specs.Borrow.{Bor}
 use Rattle.mime_base.specs.Kept.{FitsRank, class_of, rank_of_rule}
 use Rattle.mime_base.specs.Matching.Matches.{rule_matches}
@@ -16,6 +16,17 @@ plain_named rule = record { weight = rule.weight; kind = rule.kind.now; pattern 
 -- the plain value of a rule that is lent, with its own type
 abbrev pub own_named : NamedRule → GlobRule
 own_named rule = record { weight = rule.weight; kind = rule.own_kind.now; pattern = rule.pattern.now; cased = rule.cased }
+
+-- A pattern begins at a place of a text of patterns, to which it is added unless it is there.
+pub record AddsPattern (pattern old new : List ℕ) (start : ℕ) : Type 0 where
+  -- What is added.
+  pub more : List ℕ
+  -- It comes after all patterns.
+  pub grows : new ≡ old ++ more
+  -- The pattern begins at the place.
+  pub stands : take (length pattern) (drop start new) ≡ pattern
+  -- It ends within the text.
+  pub within : start + length pattern ≤ length new
 
 -- What is found of a rule that is lent, whose pattern is to begin at a place.
 pub record IsEntryOf (named : NamedRule) (start : ℕ) (rule : IndexedRule) : Type 0 where

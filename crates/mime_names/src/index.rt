@@ -60,7 +60,11 @@ impl<'a> NameIndex<'a> {
         // It is the index over just these.
         ensures { IfOk result (λ index. index ≡ rules.entry) }
     {
-        let IndexedRules { rules, patterns } = rules;
+        let IndexedRules {
+            rules,
+            patterns,
+            ..
+        } = rules;
         let table = key_table(alloc, &patterns, &rules)?;
         let general = count_general(&rules);
         Ok(NameIndex {

@@ -1,8 +1,8 @@
 //! Rules that an index is made of, with what is found of each, and their patterns in one text.
 
-ghost use Rattle.std.specs.Prelude.{◌≡◌, [], ◌∷◌, ◌++◌, IfOk};
+ghost use Rattle.std.specs.Prelude.{◌≡◌, ◌≤◌, [], ◌∷◌, ◌++◌, length, IfOk};
 ghost use Rattle.mime_base.specs.Kept.{FitsRank};
-ghost use Rattle.mime_names.specs.Rules.{IsEntryOf, own_named, plain_named};
+ghost use Rattle.mime_names.specs.Rules.{AddsPattern, IsEntryOf, own_named, plain_named};
 
 use crate::indexed_rule::IndexedRule;
 use crate::named_rule::NamedRule;
@@ -20,9 +20,12 @@ pub struct IndexedRules<'a> {
     pub(crate) rules: Vec<IndexedRule<'a>>,
     /// Their patterns.
     pub(crate) patterns: Vec<u8>,
+    /// Where the last of them begins.
+    last: usize,
 }
 
 impl<'a> Model for IndexedRules<'a> {
+    ghost use Rattle.std.specs.Prelude.{◌≤◌, length};
     ghost use Rattle.std.specs.List.{All};
     ghost use Rattle.mime_names.specs.Index.{PlainIndex, plain_index};
     ghost use Rattle.mime_names.specs.Rules.{IsIndexedRule};
@@ -31,7 +34,7 @@ impl<'a> Model for IndexedRules<'a> {
 
     ghost view = { λ all. plain_index all.patterns.items all.rules.items };
 
-    ghost invariant = { λ all. All (IsIndexedRule all.patterns.items) all.rules.items };
+    ghost invariant = { λ all. All (IsIndexedRule all.patterns.items) all.rules.items × (all.last ≤ length all.patterns.items) };
 }
 
 impl<'a> IndexedRules<'a> {
@@ -42,7 +45,11 @@ impl<'a> IndexedRules<'a> {
     {
         let rules = Vec::with_capacity(alloc, room)?;
         let patterns = Vec::with_capacity(alloc, room.saturating_mul(USUAL))?;
-        Ok(IndexedRules { rules, patterns })
+        Ok(IndexedRules {
+            rules,
+            patterns,
+            last: 0,
+        })
     }
 
     /// These rules and one more.
@@ -60,12 +67,31 @@ impl<'a> IndexedRules<'a> {
         let IndexedRules {
             mut rules,
             mut patterns,
+            last,
         } = self;
-        let start = patterns.len();
-        patterns.extend_from_slice(named.pattern)?;
+        let start = add_pattern(&mut patterns, last, named.pattern)?;
         rules.push(indexed_rule(&named, start))?;
-        Ok(IndexedRules { rules, patterns })
+        Ok(IndexedRules {
+            rules,
+            patterns,
+            last: start,
+        })
     }
+}
+
+/// Adds a pattern to the text of all, and says where it begins: where the last one does if they are the same, since often several types
+/// have one pattern.
+#[inline]
+fn add_pattern(patterns: &mut Vec<u8>, last: usize, pattern: &[u8]) -> Result<usize, OutOfMemory>
+    requires { last ≤ length patterns.old.items }
+    ensures { IfOk result (λ start. AddsPattern pattern.now patterns.old.items patterns.new.items start) }
+{
+    if &patterns[last..] == pattern {
+        return Ok(last);
+    }
+    let start = patterns.len();
+    patterns.extend_from_slice(pattern)?;
+    Ok(start)
 }
 
 /// A rule with its class and its rank, whose pattern begins at a place.

@@ -96,7 +96,7 @@ pub fn kept_types<'a>(
         meter,
     )?;
     if is_none(&types) {
-        let others = other_types(
+        let others = other_kinds(
             alloc,
             &index.patterns,
             &index.rules,
@@ -124,7 +124,7 @@ fn is_none(types: &KeptTypes<'_>) -> bool
 /// The types of the rules of the greatest rank that match a name, of those that are no text and no star before a text.
 // Never inlined: most names don't come here.
 #[inline(never)]
-fn other_types<'a>(
+fn other_kinds<'a>(
     alloc: Global,
     patterns: &[u8],
     rules: &[IndexedRule<'a>],
@@ -134,8 +134,8 @@ fn other_types<'a>(
 ) -> Result<KeptTypes<'a>, OutOfMemory>
     requires own { All (IsIndexedRule patterns.now) rules.now }
     requires keyed { IsTableOf table.now patterns.now rules.now }
-    ensures kept { IfOk result (λ types. held_kinds types ≡ map (λ rule. rule.kind) (of_greatest (λ rule. rank_of_rule (plain patterns.now rule))
-        (hits_of patterns.now (others patterns.now) rules.now name.now))) }
+    ensures kept { IfOk result (λ types. held_kinds types ≡ map (λ rule. rule.kind)
+        (of_greatest (λ rule. rank_of_rule (plain patterns.now rule)) (hits_of patterns.now (others patterns.now) rules.now name.now))) }
     ensures steps { CountsPlaces (Fronts name.now) table.now.keys.items meter.old.nodes 2 meter.new.nodes }
     ensures bytes { ComparesKeys (is_text_at patterns.now rules.now) (Fronts name.now) table.now.keys.items (length name.now)
         (rule_bytes (length name.now) (longest (map (plain patterns.now) rules.now))) meter.old.bytes meter.new.bytes }

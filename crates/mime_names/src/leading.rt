@@ -2,7 +2,7 @@
 //!
 //! One pass goes through the places of rules that may match, and keeps the places of those that lead so far at the front of them.
 
-ghost use Rattle.std.specs.Prelude.{◌≡◌, ◌+◌, ◌<◌, ◌≤◌, ◌∷◌, ◌++◌, [], ℕ, Bool, List, get_or, length, map, take, IfOk};
+ghost use Rattle.std.specs.Prelude.{◌≡◌, ◌+◌, ◌*◌, ◌<◌, ◌≤◌, ◌∷◌, ◌++◌, [], ℕ, Bool, true, List, get_or, length, map, take, IfOk, IfSome};
 ghost use Rattle.std.specs.List.{All};
 ghost use Rattle.std.specs.List.Sorted.{IsNonDecreasing};
 ghost use Rattle.std.specs.Borrow.{Bor};
@@ -12,7 +12,7 @@ ghost use Rattle.mime_names.specs.Index.{held_kinds};
 ghost use Rattle.mime_names.specs.Leading.{IsLeader, kinds_at};
 ghost use Rattle.mime_names.specs.Near.{longest, rule_bytes};
 ghost use Rattle.mime_names.specs.Places.{AreNear, ComparesPlaces, is_text_at};
-ghost use Rattle.mime_names.specs.Rules.{IsIndexedRule, hits_of, plain};
+ghost use Rattle.mime_names.specs.Rules.{IsIndexedRule, hits_of, is_match, of_texts, pattern_of, plain};
 ghost use Rattle.mime_names.specs.declared.indexed_rule.IndexedRule as spec;
 
 use crate::indexed_rule::{IndexedRule, is_match, rule_at};
@@ -78,18 +78,44 @@ fn move_leading(
         (rule_bytes (length name.now) (longest (map (plain patterns.now) rules.now))) meter.old.bytes meter.new.bytes }
 {
     let mut leader = Leader { rank: 0, count: 0 };
+    let mut matched = None;
     let mut from = 0;
     for near in 0..places.len() {
         let place = places[near];
         if from <= place {
             let rule = rule_at(rules, place);
-            if is_match(patterns, rule, name, meter) {
+            if is_match_after(matched, patterns, rule, name, meter) {
+                matched = Some(rule);
                 leader = offer(places, leader, rule.rank, place);
             }
             from = place + 1;
         }
     }
     leader.count
+}
+
+/// Whether a rule matches a name, where another does: often several types have one pattern.
+#[inline(always)]
+fn is_match_after(
+    matched: Option<&IndexedRule<'_>>,
+    patterns: &[u8],
+    rule: &IndexedRule<'_>,
+    name: &[u8],
+    meter: &mut Meter,
+) -> bool
+    requires own { IsIndexedRule patterns.now rule.now }
+    requires matched { IfSome matched (λ other. is_match patterns.now name.now other.now ≡ true) }
+    ensures exact { result ≡ is_match patterns.now name.now rule.now }
+    ensures nodes { meter.new.nodes ≡ meter.old.nodes }
+    ensures text_bytes { of_texts rule.now.class ≡ true → meter.new.bytes ≤ meter.old.bytes + length name.now }
+    ensures bytes { meter.new.bytes ≤ meter.old.bytes + (length (pattern_of patterns.now rule.now) + 1) * (length name.now + 1) }
+{
+    if let Some(other) = matched {
+        if rule.start == other.start && rule.length == other.length && rule.cased == other.cased {
+            return true;
+        }
+    }
+    is_match(patterns, rule, name, meter)
 }
 
 /// What leads after one rule more, whose place is put behind those that lead with it.

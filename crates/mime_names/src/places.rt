@@ -97,7 +97,12 @@ fn in_order(places: &mut Found)
     ensures permutation { IsPermutation places.old.items places.new.items }
 {
     if places.len() > 1 {
-        places.as_mut_slice().sort_unstable();
+        let places = places.as_mut_slice();
+        // A chain gives its places the last first.
+        places.reverse();
+        if !places.is_sorted() {
+            places.sort_unstable();
+        }
     }
 }
 

@@ -69,8 +69,8 @@ pub returns-in_err-others-clause-near : goal.returns-in_err-others-clause-near
 returns-in_err-others-clause-near c =
     fronts-near c.index.inside.patterns.items c.index.inside.rules.items c.index.inside.table c.index.invariant
     c.args.name.now c.args.index.now.given (ap (λ (index : PlainIndex). index.given) c.index.view_is) c.args.meter.now.nodes c.text_places.new.meter.nodes
-    c.leading_types.new.meter.nodes c.other_types.new.meter.nodes c.text_places.ensures.steps c.leading_types.ensures.nodes
-    c.other_types.ensures.steps
+    c.leading_types.new.meter.nodes c.other_kinds.new.meter.nodes c.text_places.ensures.steps c.leading_types.ensures.nodes
+    c.other_kinds.ensures.steps
 
 pub returns-in_err-others-clause-texts : goal.returns-in_err-others-clause-texts
 returns-in_err-others-clause-texts c =
@@ -86,8 +86,8 @@ pub returns-then-is_none-clause-near : goal.returns-then-is_none-clause-near
 returns-then-is_none-clause-near c =
     fronts-near c.index.inside.patterns.items c.index.inside.rules.items c.index.inside.table c.index.invariant
     c.args.name.now c.args.index.now.given (ap (λ (index : PlainIndex). index.given) c.index.view_is) c.args.meter.now.nodes c.text_places.new.meter.nodes
-    c.leading_types.new.meter.nodes c.other_types.new.meter.nodes c.text_places.ensures.steps c.leading_types.ensures.nodes
-    c.other_types.ensures.steps
+    c.leading_types.new.meter.nodes c.other_kinds.new.meter.nodes c.text_places.ensures.steps c.leading_types.ensures.nodes
+    c.other_kinds.ensures.steps
 
 pub returns-then-is_none-clause-texts : goal.returns-then-is_none-clause-texts
 returns-then-is_none-clause-texts c =
@@ -194,8 +194,8 @@ returns-in_err-others-clause-bytes c =
     omega (arith, texts, c.text_places.ensures.bytes) in
     let fronts =
     fronts-bytes patterns rules table c.index.invariant name c.args.index.now.given view c.leading_types.new.meter.bytes
-    c.other_types.new.meter.bytes (rw (c.deref-then-is_none.ensures.value, c.deref-then-is_none-2.ensures.value) at c.other_types.ensures.bytes) in
-    kept-bytes patterns rules table c.index.invariant name c.args.index.now.given view c.args.meter.now.bytes c.other_types.new.meter.bytes
+    c.other_kinds.new.meter.bytes (rw (c.deref-then-is_none.ensures.value, c.deref-then-is_none-2.ensures.value) at c.other_kinds.ensures.bytes) in
+    kept-bytes patterns rules table c.index.invariant name c.args.index.now.given view c.args.meter.now.bytes c.other_kinds.new.meter.bytes
     c.leading_types.new.meter.bytes c.leading_types.new.meter.bytes all (omega arith) fronts
 
 pub returns-in_err-others-clause-text_bytes : goal.returns-in_err-others-clause-text_bytes
@@ -224,8 +224,8 @@ returns-then-is_none-clause-bytes c =
     omega (arith, texts, c.text_places.ensures.bytes) in
     let fronts =
     fronts-bytes patterns rules table c.index.invariant name c.args.index.now.given view c.leading_types.new.meter.bytes
-    c.other_types.new.meter.bytes (rw (c.deref-then-is_none.ensures.value, c.deref-then-is_none-2.ensures.value) at c.other_types.ensures.bytes) in
-    kept-bytes patterns rules table c.index.invariant name c.args.index.now.given view c.args.meter.now.bytes c.other_types.new.meter.bytes
+    c.other_kinds.new.meter.bytes (rw (c.deref-then-is_none.ensures.value, c.deref-then-is_none-2.ensures.value) at c.other_kinds.ensures.bytes) in
+    kept-bytes patterns rules table c.index.invariant name c.args.index.now.given view c.args.meter.now.bytes c.other_kinds.new.meter.bytes
     c.leading_types.new.meter.bytes c.leading_types.new.meter.bytes all (omega arith) fronts
 
 pub returns-then-is_none-clause-text_bytes : goal.returns-then-is_none-clause-text_bytes

@@ -10,11 +10,12 @@ use Rattle.mime_names.proofs.KeptLemmas.{best-kinds, offers-hit}
 use Rattle.mime_names.proofs.LeadingLemmas.{leader-kinds}
 use Rattle.mime_names.proofs.NearLemmas.{miss_more, passed}
 use Rattle.mime_names.proofs.leading.move_leading.Goals as goal
-use Rattle.mime_names.proofs.leading.move_leading.Goals.{then-from-place, then-is_match, else-is_match, else-from-place}
+use Rattle.mime_names.proofs.leading.move_leading.Goals.{then-from-place, then-is_match_after, else-is_match_after, else-from-place}
 
 pub loop-near-init : goal.loop-near-init
 loop-near-init c = record {
   leads = λ part near. record { best = refl; none = λ none. refl };
+  matched = record {};
   count = omega arith;
   long = refl;
   rest = λ j past. refl;
@@ -47,49 +48,54 @@ loop-near-preserved c =
           let indexed : IsIndexedRule patterns rule = subst (IsIndexedRule patterns) (sym w.rule_at-rule.ensures) (c.requires.own place rule low) in
           let offered : (rule.rank, rule.kind) ≡ offer_of patterns rule = ap (λ n. (n, rule.kind)) indexed.rank in
           record {
-            leads = λ part near. elim w.if-is_match.branch [
-              | then-is_match v ↦
+            leads = λ part near. elim w.if-is_match_after.branch [
+              | then-is_match_after v ↦
                   (let own = near.only place rule (subst (λ n. Contains places n) (sym here) (Contains-get_or places i 0 inside)) w.rule_at-rule.ensures in
-                  let hit : is_match patterns name rule ≡ true = sym w.is_match.ensures.exact ∙ v.if-is_match.true in
+                  let hit : is_match patterns name rule ≡ true = sym w.is_match_after.ensures.exact ∙ v.if-is_match_after.true in
                   rw (w.from-is, w.leader-is, v.leader-is, w.places-is, v.places-is)
                   (subst (IsLeader rules v.offer-leader.new.places v.offer-leader.result)
                   (ap (λ offer. map (offer_of patterns) (hits_of patterns part (take c.loop-near.from rules) name) ++ offer ∷ []) offered
                   ∙ sym (offers-hit patterns part rules name place c.loop-near.from rule low w.rule_at-rule.ensures own hit (skipped part near)))
                   (v.offer-leader.ensures.leads rules rule (map (offer_of patterns) (hits_of patterns part (take c.loop-near.from rules) name)) low
                   w.rule_at-rule.ensures (before.leads part near))))
-              | else-is_match v ↦
-                  (let miss : is_match patterns name rule ≡ false = sym w.is_match.ensures.exact ∙ v.if-is_match.false in
+              | else-is_match_after v ↦
+                  (let miss : is_match patterns name rule ≡ false = sym w.is_match_after.ensures.exact ∙ v.if-is_match_after.false in
                   rw (w.from-is, w.leader-is, v.leader-is, w.places-is, v.places-is, miss_more patterns part rules name place rule low w.rule_at-rule.ensures miss, skipped part near)
                   (before.leads part near))
             ];
-            count = elim w.if-is_match.branch [
-              | then-is_match v ↦ rw (w.leader-is, v.leader-is) (omega (arith, v.offer-leader.ensures.count, before.count))
-              | else-is_match v ↦ rw (w.leader-is, v.leader-is) (omega (arith, before.count))
+            matched = elim w.if-is_match_after.branch [
+              | then-is_match_after v ↦ rw (w.matched-is, v.matched-is) (sym w.is_match_after.ensures.exact ∙ v.if-is_match_after.true)
+              | else-is_match_after v ↦ rw (w.matched-is, v.matched-is) before.matched
             ];
-            long = elim w.if-is_match.branch [
-              | then-is_match v ↦ rw (w.places-is, v.places-is) (v.offer-leader.ensures.long ∙ before.long)
-              | else-is_match v ↦ rw (w.places-is, v.places-is) before.long
+            count = elim w.if-is_match_after.branch [
+              | then-is_match_after v ↦ rw (w.leader-is, v.leader-is) (omega (arith, v.offer-leader.ensures.count, before.count))
+              | else-is_match_after v ↦ rw (w.leader-is, v.leader-is) (omega (arith, before.count))
             ];
-            rest = λ j past. elim w.if-is_match.branch [
-              | then-is_match v ↦ rw (w.places-is, v.places-is)
+            long = elim w.if-is_match_after.branch [
+              | then-is_match_after v ↦ rw (w.places-is, v.places-is) (v.offer-leader.ensures.long ∙ before.long)
+              | else-is_match_after v ↦ rw (w.places-is, v.places-is) before.long
+            ];
+            rest = λ j past. elim w.if-is_match_after.branch [
+              | then-is_match_after v ↦ rw (w.places-is, v.places-is)
                   (v.offer-leader.ensures.rest j (omega (arith, before.count, past)) ∙ before.rest j (omega (arith, past)))
-              | else-is_match v ↦ rw (w.places-is, v.places-is) (before.rest j (omega (arith, past)))
+              | else-is_match_after v ↦ rw (w.places-is, v.places-is) (before.rest j (omega (arith, past)))
             ];
-            low = elim w.if-is_match.branch [
-              | then-is_match v ↦ rw (w.places-is, v.places-is) (v.offer-leader.ensures.below (length rules) low before.low)
-              | else-is_match v ↦ rw (w.places-is, v.places-is) before.low
+            low = elim w.if-is_match_after.branch [
+              | then-is_match_after v ↦ rw (w.places-is, v.places-is) (v.offer-leader.ensures.below (length rules) low before.low)
+              | else-is_match_after v ↦ rw (w.places-is, v.places-is) before.low
             ];
             within = omega (arith, w.from-is, low);
             past = λ j less. omega (arith, w.from-is, here, c.requires.rise j i 0 (omega (arith, less)) inside);
-            nodes = rw w.meter-is (w.is_match.ensures.nodes ∙ before.nodes);
+            nodes = rw w.meter-is (w.is_match_after.ensures.nodes ∙ before.nodes);
             bytes = rw (w.from-is, w.meter-is)
                 (compares-rule patterns rules c.requires.own name place rule low w.rule_at-rule.ensures places c.args.meter.now.bytes
-                c.loop-near.from c.loop-near.meter.bytes w.is_match.new.meter.bytes w.if-from-place.true
+                c.loop-near.from c.loop-near.meter.bytes w.is_match_after.new.meter.bytes w.if-from-place.true
                 (subst (λ n. Contains places n) (sym here) (Contains-get_or places i 0 inside))
-                before.bytes w.is_match.ensures.bytes w.is_match.ensures.text_bytes);
+                before.bytes w.is_match_after.ensures.bytes w.is_match_after.ensures.text_bytes);
           })
       | else-from-place w ↦ record {
         leads = λ part near. rw (w.from-is, w.leader-is, w.places-is) (before.leads part near);
+        matched = rw w.matched-is before.matched;
         count = rw w.leader-is (omega (arith, before.count));
         long = rw w.places-is before.long;
         rest = λ j past. rw w.places-is (before.rest j (omega (arith, past)));

@@ -3,7 +3,7 @@ use Rattle.mime_names.specs.Places.{is_text_at}
 use Rattle.mime_names.specs.Rules.{others}
 use Rattle.mime_names.proofs.KeyByteLemmas.{compares-keys, compares-no-keys}
 use Rattle.mime_names.proofs.TableLemmas.{near-others}
-use Rattle.mime_names.proofs.kept.other_types.Goals as goal
+use Rattle.mime_names.proofs.kept.other_kinds.Goals as goal
 
 pub returns-clause-kept : goal.returns-clause-kept
 returns-clause-kept c =
