@@ -1,5 +1,5 @@
 -- What is paid before a part of a cache is read back.
-use Rattle.std.specs.Prelude.{◌≡◌, ◌⊎◌, ℕ, ◌+◌, ◌-◌, ◌*◌, ◌/◌, ◌==◌, Bool, true, false, List, Option, None, Some, length}
+use Rattle.std.specs.Prelude.{◌≡◌, ◌⊎◌, ℕ, ◌+◌, ◌-◌, ◌*◌, ◌/◌, ◌==◌, Bool, true, false, if◌then◌else◌, List, Option, None, Some, length}
 use Rattle.mime_view.specs.Globs.{globs_listed}
 
 -- as many records as reading back the names of a cache of that length may visit
@@ -72,3 +72,22 @@ paid_by_icons visited it = record it { icons = less it.icons visited }
 abbrev pub is_due : Option ℕ → Bool
 is_due (Some owed) = owed == 0
 is_due None = false
+
+-- what is owed once the first that is paid was tried: what names need, else the magic list, else the aliases and the parents, else the
+-- aliases and the icons
+abbrev pub after_reading : PlainPaidCache → PlainPaidCache
+after_reading it =
+    if is_due it.names then record it { names = None }
+    else if is_due it.magic then record it { magic = None }
+    else if is_due it.pairs then record it { pairs = None }
+    else if is_due it.icons then record it { icons = None }
+    else it
+
+-- what was paid for it; nothing where nothing is paid
+abbrev pub reading_price : PlainPaidCache → ℕ
+reading_price it =
+    if is_due it.names then names_price (length it.cache)
+    else if is_due it.magic then magic_due (length it.cache)
+    else if is_due it.pairs then pairs_price (length it.cache)
+    else if is_due it.icons then icons_price (length it.cache)
+    else 0

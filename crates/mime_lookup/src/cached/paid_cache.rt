@@ -7,10 +7,10 @@
 //! what walks take, whatever the cache is, and few questions read nothing back. Each part is read back once at most: where memory is
 //! refused, or the cache spells no such list, the walk goes on.
 
-ghost use Rattle.std.specs.Prelude.{◌≡◌, ◌+◌, ◌≤◌, None, false, length, true, IfOk, MatchResult, OnOk};
+ghost use Rattle.std.specs.Prelude.{◌≡◌, ◌+◌, ◌≤◌, length, IfOk, MatchResult, OnOk};
 ghost use Rattle.mime_base.specs.Meter.{raised};
-ghost use Rattle.mime_lookup.specs.Paid.{OwesAll, is_due, less, magic_due, names_price, paid_by_content, paid_by_name};
-ghost use Rattle.mime_lookup.specs.Paid.{icons_price, paid_by_icons, paid_by_types, pairs_price};
+ghost use Rattle.mime_lookup.specs.Paid.{OwesAll, after_reading, is_due, less, magic_due, names_price, paid_by_content, paid_by_name};
+ghost use Rattle.mime_lookup.specs.Paid.{icons_price, paid_by_icons, paid_by_types, pairs_price, reading_price};
 ghost use Rattle.mime_view.specs.Opening.{IsOpenFault, Opens};
 
 use crate::cached::indexed_cache::IndexedCache;
@@ -89,32 +89,12 @@ impl<'a> PaidCache<'a> {
     /// Reads back what is paid: what names need, else the magic list, else the aliases and the parents, else the aliases and the icons.
     #[inline]
     pub fn read_paid(&mut self, alloc: Global, meter: &mut Meter)
-        // What is still owed is not read back: all stays, and nothing is visited.
-        ensures unpaid { is_due self.old.names ≡ false → is_due self.old.magic ≡ false → is_due self.old.pairs ≡ false
-            → is_due self.old.icons ≡ false → (self.new ≡ self.old) × (meter.new ≡ meter.old) }
-        // Names that owe nothing are tried, and are then none.
-        ensures names { is_due self.old.names ≡ true → self.new ≡ record self.old { names = None } }
+        // Of what is paid the first that wasn't tried is tried, and is never due again; where nothing is paid all stays.
+        ensures reads { self.new ≡ after_reading self.old }
         // That visits no more records than were paid for it.
-        ensures names_cost { is_due self.old.names ≡ true
-            → meter.new.nodes ≤ meter.old.nodes + names_price (length self.old.cache) }
-        // So it is with the magic list, where names are still owed or were tried.
-        ensures magic { is_due self.old.names ≡ false → is_due self.old.magic ≡ true
-            → self.new ≡ record self.old { magic = None } }
-        // That visits no more than was paid for it either.
-        ensures magic_cost { is_due self.old.names ≡ false → is_due self.old.magic ≡ true
-            → meter.new.nodes ≤ meter.old.nodes + magic_due (length self.old.cache) }
-        // So it is with the aliases and the parents, where the others are still owed or were tried.
-        ensures pairs { is_due self.old.names ≡ false → is_due self.old.magic ≡ false → is_due self.old.pairs ≡ true
-            → self.new ≡ record self.old { pairs = None } }
-        // That visits no more than was paid for them.
-        ensures pairs_cost { is_due self.old.names ≡ false → is_due self.old.magic ≡ false → is_due self.old.pairs ≡ true
-            → meter.new.nodes ≤ meter.old.nodes + pairs_price (length self.old.cache) }
-        // So it is with the aliases and the icons, where all others are still owed or were tried.
-        ensures icons { is_due self.old.names ≡ false → is_due self.old.magic ≡ false → is_due self.old.pairs ≡ false
-            → is_due self.old.icons ≡ true → self.new ≡ record self.old { icons = None } }
-        // That visits no more than was paid for them.
-        ensures icons_cost { is_due self.old.names ≡ false → is_due self.old.magic ≡ false → is_due self.old.pairs ≡ false
-            → is_due self.old.icons ≡ true → meter.new.nodes ≤ meter.old.nodes + icons_price (length self.old.cache) }
+        ensures cost { meter.new.nodes ≤ meter.old.nodes + reading_price self.old }
+        // Where nothing is paid nothing is counted.
+        ensures nothing { reading_price self.old ≡ 0 → meter.new ≡ meter.old }
     {
         if is_due(self.names) {
             self.names = None;
