@@ -1,6 +1,6 @@
 //! A cache that is opened once and looked up in many times, with what was read back of it.
 
-ghost use Rattle.std.specs.Prelude.{◌≡◌, ◌+◌, ◌*◌, ◌/◌, ◌≤◌, ◌∷◌, ℕ, List, Contains, None, length};
+ghost use Rattle.std.specs.Prelude.{◌≡◌, ◌+◌, ◌*◌, ◌/◌, ◌≤◌, ◌∷◌, ℕ, List, Contains, None, length, true};
 ghost use Rattle.std.specs.Prelude.{IfErr, IfOk, IfSome, IsOkAnd, MatchResult, OnOk};
 ghost use Rattle.mime_base.specs.Cache.Bytes.{Stands, field};
 ghost use Rattle.mime_base.specs.Database.{PlainDatabase, pairs_of};
@@ -266,13 +266,18 @@ impl<'a> IndexedCache<'a> {
     }
 
     /// Whether as many records are left as sections and lines that were read back can be.
-    fn has_room_for_magic(&self, spending: &Spending) -> bool {
+    fn has_room_for_magic(&self, spending: &Spending) -> bool
+        ensures { result ≡ true → length self.now / 16 ≤ spending.now.budget.records }
+    {
         self.cache.length() / 16 <= spending.budget.records
     }
 
     /// Whether the pairs were read back, and a walk of all that indexes take the place of is never spent: of the rules, whose records have
     /// twelve bytes and are taken twice at most, of the magic, and of the pairs.
-    pub fn has_room_for_search(&self, spending: &Spending) -> bool {
+    pub(crate) fn has_room_for_search(&self, spending: &Spending) -> bool
+        // Then as many records are left as a walk of the rules, twice, and of the magic may take.
+        ensures { result ≡ true → length self.now / 6 + length self.now / 16 ≤ spending.now.budget.records }
+    {
         let length = self.cache.length();
         match &self.pairs {
             Some(pairs) => length / 6 + length / 16
