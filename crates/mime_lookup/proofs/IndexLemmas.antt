@@ -12,6 +12,7 @@ pub mod LineBytes
 pub mod Owners
 pub mod NoOwners
 pub mod LongerContents
+pub mod TriedLines
 pub mod IndexNodes
 pub mod IndexBytes
 pub mod OrderBytes

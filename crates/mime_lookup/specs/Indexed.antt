@@ -1,13 +1,11 @@
 -- What an index keeps of its database.
 use Rattle.std.specs.Prelude.{◌≡◌, ℕ, ◌<◌, List, length, map}
-use Rattle.std.specs.Borrow.{Bor}
 use Rattle.mime_base.specs.Database.{plain_database}
 use Rattle.mime_base.specs.Database.PlainPairs.{plain_pairs}
 use Rattle.mime_base.specs.Database.Subclass.{resolved}
 use Rattle.mime_base.specs.declared.database.Database.{Database}
 use Rattle.mime_base.specs.Magic.{PlainSection, plain_sections}
 use Rattle.mime_base.specs.declared.database.rule.GlobRule.{GlobRule}
-use Rattle.mime_base.specs.declared.magic.matchlet.Matchlet.{Matchlet}
 use Rattle.mime_load.specs.declared.line.LentLine.{LentLine}
 use Rattle.mime_lookup.specs.CheckingOrder.{read_limit}
 use Rattle.mime_lookup.specs.Heads.{AreLineHeads, AreNoneShorter}
@@ -15,10 +13,9 @@ use Rattle.mime_lookup.specs.Pairs.{ArePaired}
 use Rattle.mime_lookup.specs.Places.{ArePlaced}
 use Rattle.mime_lookup.specs.Tables.{AreTables, OwnsLines}
 use Rattle.mime_lookup.specs.TopLines.{PlainTop, lent_matchlet, lent_top, plain_tops, top_lines}
-use Rattle.mime_lookup.specs.declared.indexed.heads.Heads.{Heads}
 use Rattle.mime_lookup.specs.declared.indexed.line_head.LineHead.{LineHead}
 use Rattle.mime_lookup.specs.declared.indexed.magic_line.LentTop.{LentTop}
-use Rattle.mime_lookup.specs.declared.indexed.magic_line.Matchlets.{Matchlets}
+use Rattle.mime_lookup.specs.declared.indexed.prepared_magic.PreparedMagic.{PreparedMagic}
 use Rattle.mime_lookup.specs.declared.indexed.tables.Tables.{Tables}
 use Rattle.mime_lookup.specs.declared.indexed.top_line.TopLine.{TopLine}
 use Rattle.mime_lookup.specs.declared.places.PlacedPairs.{PlacedPairs}
@@ -47,13 +44,21 @@ pub record AreFound (heads : List LineHead) (tables : Tables) (pairs : List ℕ)
 abbrev pub IsMagicIndex : List LentLine × List (TopLine LentTop) → List PlainSection → Type 0
 IsMagicIndex index sections = plain_tops (lent_top index.0) index.1 ≡ top_lines sections
 
--- the index of a database's rules, the places of its pairs, the heads of its lines, and how much of a content is read at most
-pub record IsIndexOf (database : Database) (names : PlainIndex) (pairs : PlacedPairs) (heads : Heads Matchlets (Bor Matchlet)) (limit : ℕ) : Type 0 where
+-- the index of a database's rules, and the places of its pairs
+pub record IsIndexOf (database : Database) (names : PlainIndex) (pairs : PlacedPairs) : Type 0 where
   pub named : AreUnaliased names database
   pub placed : ArePlaced pairs
   pub aliases : pairs.aliases.pairs.now ≡ database.aliases.items
   pub parents : pairs.parents.pairs.now ≡ database.parents.items
-  pub found : AreFound heads.lines.items heads.tables heads.pairs.items heads.shortest (plain_tops lent_matchlet heads.tops.items)
-  pub whole : plain_tops lent_matchlet heads.tops.items ≡ top_lines (plain_sections database.sections.items)
-  pub limits : limit ≡ read_limit (plain_database database)
-  pub some : 0 < limit
+
+-- Magic that is prepared is a database's.
+pub record IsPreparedMagic (database : Database) (magic : PreparedMagic) : Type 0 where
+  -- Each of its lines of indent 0 has its head, and is found.
+  pub found :
+      AreFound magic.heads.lines.items magic.heads.tables magic.heads.pairs.items magic.heads.shortest (plain_tops lent_matchlet magic.heads.tops.items)
+  -- They are those of the database's sections, in their order.
+  pub whole : plain_tops lent_matchlet magic.heads.tops.items ≡ top_lines (plain_sections database.sections.items)
+  -- Of a content so much is read at most.
+  pub limits : magic.limit ≡ read_limit (plain_database database)
+  -- Something is read.
+  pub some : 0 < magic.limit

@@ -12,7 +12,7 @@ ghost use Rattle.mime_base.specs.Magic.Holds.{first_magic};
 ghost use Rattle.mime_lookup.specs.Ancestry.{kinds_of};
 ghost use Rattle.mime_lookup.specs.CheckingOrder.{read_limit};
 ghost use Rattle.mime_lookup.specs.Choice.{IsFirst, candidates, kept};
-ghost use Rattle.mime_lookup.specs.IndexBytes.{search_bytes};
+ghost use Rattle.mime_lookup.specs.IndexBytes.{content_bytes, search_bytes};
 ghost use Rattle.mime_lookup.specs.ShortTypes.{HasShortTypes};
 ghost use Rattle.mime_view.specs.Magic.{plain_found};
 
@@ -36,12 +36,6 @@ pub trait Asked<'a> {
 
     // And those of all rules that match it.
     ghost all_bytes: { Self → List ℕ → ℕ };
-
-    // Whether the bytes that a content compares are bounded.
-    ghost bounds_content: { Self → Type 0 };
-
-    // Then so many at most, for the content's length.
-    ghost content_bytes: { Self → ℕ → ℕ };
 
     /// The types of the rules that are kept of a name, each after one alias step.
     fn kept_kinds(
@@ -87,8 +81,8 @@ pub trait Asked<'a> {
         ensures first { plain_found result ≡ first_magic (plain self.now).sections content.now host }
         // No record of a cache is visited.
         ensures nodes { meter.new.nodes ≡ meter.old.nodes }
-        // No more bytes are compared, where they are bounded.
-        ensures bytes { bounds_content self.now → meter.new.bytes ≤ meter.old.bytes + content_bytes self.now (length content.now) };
+        // No more bytes are compared than each line allows for the content's length.
+        ensures bytes { meter.new.bytes ≤ meter.old.bytes + content_bytes (plain self.now) (length content.now) };
 
     /// A type after one alias step.
     fn unalias(&self, kind: &'a [u8]) -> &'a [u8]

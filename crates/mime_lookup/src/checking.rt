@@ -13,7 +13,7 @@ ghost use Rattle.mime_lookup.specs.CheckingOrder.{IsSniffed, are_one_type, asked
 ghost use Rattle.mime_lookup.specs.CheckingOrder.{has_magic, read_limit, types_before};
 ghost use Rattle.mime_lookup.specs.Choice.{ChoosesAmong, kept};
 ghost use Rattle.mime_lookup.specs.Content.{known_content};
-ghost use Rattle.mime_lookup.specs.IndexBytes.{choice_bytes, order_bytes, search_bytes};
+ghost use Rattle.mime_lookup.specs.IndexBytes.{choice_bytes, content_bytes, order_bytes, search_bytes};
 ghost use Rattle.mime_lookup.specs.IndexNodes.{nodes_after, nodes_before, order_nodes};
 ghost use Rattle.mime_lookup.specs.LookUps.{ChoosesSome, IsPlainAnswer, cause_in, meter_in, name_too_long, read_in};
 ghost use Rattle.mime_lookup.specs.Question.{ChoosesFor, ReadsFor};
@@ -61,11 +61,11 @@ pub fn look_up_over<'a, A: Asked<'a>, R: Content>(
     // Of an index no more nodes are counted than the order allows, and no record of a cache is visited.
     ensures nodes { (meter_in result).nodes ≤ order_nodes order
         (A.kept_nodes database.now name.now) (A.all_nodes database.now name.now) }
-    // No more bytes are compared than the order allows, by what was read of the content, where they are bounded.
-    ensures bytes { A.bounds_content database.now → (meter_in result).bytes
+    // No more bytes are compared than the order allows, by what was read of the content.
+    ensures bytes { (meter_in result).bytes
         ≤ order_bytes order (globs_suffice (A.plain database.now) name.now order)
         (A.kept_bytes database.now name.now) (A.all_bytes database.now name.now)
-        (A.content_bytes database.now (read_in result)) (choice_bytes (A.plain database.now) name.now) }
+        (content_bytes (A.plain database.now) (read_in result)) (choice_bytes (A.plain database.now) name.now) }
 {
     let mut read = 0;
     let mut meter = Meter::new();
@@ -103,11 +103,11 @@ fn kind_of<'a, A: Asked<'a>, R: Content>(
     // Of an index no more nodes are counted than the order allows.
     ensures nodes { meter.new.nodes ≤ meter.old.nodes + order_nodes question.now.order
         (A.kept_nodes database.now question.now.name.now) (A.all_nodes database.now question.now.name.now) }
-    // No more bytes are compared than the order allows, where they are bounded.
-    ensures bytes { A.bounds_content database.now → meter.new.bytes ≤ meter.old.bytes
+    // No more bytes are compared than the order allows.
+    ensures bytes { meter.new.bytes ≤ meter.old.bytes
         + order_bytes question.now.order (globs_suffice (A.plain database.now) question.now.name.now question.now.order)
         (A.kept_bytes database.now question.now.name.now) (A.all_bytes database.now question.now.name.now)
-        (A.content_bytes database.now read.new) (choice_bytes (A.plain database.now) question.now.name.now) }
+        (content_bytes (A.plain database.now) read.new) (choice_bytes (A.plain database.now) question.now.name.now) }
 {
     database.keeps_limits();
     let named = named_kinds(alloc, database, question, meter)?;

@@ -16,6 +16,7 @@ pub mod magic_index;
 pub mod magic_line;
 pub mod noted_pairs;
 pub mod other_pairs;
+pub mod prepared_magic;
 pub mod rules;
 pub mod sniff;
 pub mod subclass;
@@ -24,13 +25,11 @@ pub mod top_line;
 
 ghost use Rattle.std.specs.Prelude.{◌≡◌, IfOk};
 
-use crate::indexed::heads::{Heads, heads_of};
-use crate::indexed::magic_line::Matchlets;
+use crate::indexed::prepared_magic::{PreparedMagic, magic_of};
 use crate::indexed::rules::lent_rules;
-use crate::indexed::top_line::tops_of;
-use crate::lists::front_limit;
+use crate::lists::Lists;
 use crate::places::{PlacedPairs, places_of};
-use mime_base::{Database, Matchlet, OutOfMemory, database_keeps_limits};
+use mime_base::{Database, OutOfMemory, database_keeps_limits};
 use mime_names::NameIndex;
 use std::alloc::Global;
 use std::marker::Model;
@@ -38,7 +37,8 @@ use std::marker::Model;
 /// A database with what is found of it once for many lookups. This project's own.
 ///
 /// ```
-/// let index = IndexedDatabase::new(alloc, &database)?;
+/// let mut index = IndexedDatabase::new(alloc, &database)?;
+/// index.prepare_magic(alloc)?;
 /// let answer = look_up_indexed(alloc, &index, b"notes.txt", &mut content, Host::Little, order)?;
 /// ```
 #[derive(Drop)]
@@ -49,17 +49,16 @@ pub struct IndexedDatabase<'a> {
     names: NameIndex<'a>,
     /// The places of its aliases and of its subclass pairs.
     pairs: PlacedPairs<'a>,
-    /// The top lines of its sections with their heads.
-    heads: Heads<'a, Matchlets, &'a Matchlet>,
-    /// How much of a content is read at most.
-    limit: usize,
+    /// Its sections of magic, once they are prepared.
+    magic: Option<PreparedMagic<'a>>,
 }
 
 impl<'a> Model for IndexedDatabase<'a> {
     ghost use Rattle.mime_base.specs.declared.database.Database.{Database};
     ghost use Rattle.mime_base.specs.contracts.magic.matchlet.Matchlet as line;
-    ghost use Rattle.mime_lookup.specs.Indexed.{IsIndexOf};
+    ghost use Rattle.mime_lookup.specs.Indexed.{IsIndexOf, IsPreparedMagic};
     ghost use Rattle.std.specs.Coded.{codes};
+    ghost use Rattle.std.specs.Prelude.{IfSome};
 
     ghost Value = { Database };
 
@@ -67,11 +66,13 @@ impl<'a> Model for IndexedDatabase<'a> {
 
     ghost view = { λ index. index.database.now };
 
-    ghost invariant = { λ index. IsIndexOf index.database.now index.names index.pairs index.heads index.limit };
+    ghost invariant = { λ index. IsIndexOf index.database.now index.names index.pairs
+        × IfSome index.magic (IsPreparedMagic index.database.now) };
 }
 
 impl<'a> IndexedDatabase<'a> {
-    /// The index of a database. Its time and memory grow with its rules, aliases, subclass pairs and lines.
+    /// The index of a database for names and types. Its time and memory grow with its rules, aliases and subclass pairs; its magic is not
+    /// looked at.
     pub fn new(alloc: Global, database: &'a Database) -> Result<IndexedDatabase<'a>, OutOfMemory>
         // It is an index of this database.
         ensures { IfOk result (λ index. index ≡ database.entry.now) }
@@ -81,14 +82,30 @@ impl<'a> IndexedDatabase<'a> {
         database_keeps_limits(database);
         let rules = lent_rules(alloc, &database.rules, &aliases)?;
         let names = NameIndex::of_rules(alloc, rules)?;
-        let tops = tops_of(alloc, &database.sections)?;
-        let heads = heads_of(alloc, Matchlets, tops)?;
         Ok(IndexedDatabase {
             database,
             names,
             pairs: PlacedPairs { aliases, parents },
-            heads,
-            limit: front_limit(database),
+            magic: None,
         })
+    }
+
+    /// Prepares its magic for many contents, which without that are tried on all lines. The time and the memory grow with the lines.
+    pub fn prepare_magic(&mut self, alloc: Global) -> Result<(), OutOfMemory>
+        // It is an index of the same database.
+        ensures { self.new ≡ self.old }
+    {
+        self.magic = Some(magic_of(alloc, self.database)?);
+        Ok(())
+    }
+
+    /// The database, to be asked by trying all of it.
+    pub(crate) fn lists(&self) -> Lists<'a>
+        // It is that of the index.
+        ensures { result.database.now ≡ self.now }
+    {
+        Lists {
+            database: self.database,
+        }
     }
 }

@@ -1,14 +1,16 @@
 //! Lookup by trying every rule, line and pair of a database.
 
-ghost use Rattle.std.specs.Prelude.{◌≡◌, ◌<◌, ◌≤◌, length, IfErr, IfOk, IfSome};
+ghost use Rattle.std.specs.Prelude.{◌≡◌, ◌+◌, ◌<◌, ◌≤◌, length, IfErr, IfOk, IfSome};
 ghost use Rattle.mime_base.specs.Database.{plain_database};
 ghost use Rattle.mime_base.specs.Magic.Holds.{first_magic};
 ghost use Rattle.mime_base.specs.Magic.{plain_sections};
 ghost use Rattle.mime_lookup.specs.CheckingOrder.{globs_suffice, read_limit};
 ghost use Rattle.mime_lookup.specs.Content.{known_content};
-ghost use Rattle.mime_lookup.specs.IndexBytes.{tried_bytes};
+ghost use Rattle.mime_lookup.specs.IndexBytes.{choice_bytes, content_bytes, order_bytes, tried_bytes};
+ghost use Rattle.mime_lookup.specs.LineBytes.{index_bytes};
 ghost use Rattle.mime_lookup.specs.LookUps.{ChoosesSome, IsPlainAnswer, cause_in, meter_in, name_too_long, read_in};
 ghost use Rattle.mime_lookup.specs.Reads.{AsksUnless, IsReadOrMemory, Reads};
+ghost use Rattle.mime_lookup.specs.TopLines.{top_lines};
 ghost use Rattle.mime_view.specs.Magic.{plain_found};
 
 pub mod icons;
@@ -41,7 +43,7 @@ use std::alloc::Global;
 ///
 /// A name of more than 4,096 bytes is [`Cause::NameTooLong`], before anything else. [`Cause::Read`]
 /// comes with a failed read and with the 1,001st interruption. The meter counts what matching
-/// compares, with no promised bound, and no record.
+/// compares, and no record.
 pub fn look_up_plain<'a, R: Content>(
     alloc: Global,
     database: &'a Database,
@@ -68,6 +70,10 @@ pub fn look_up_plain<'a, R: Content>(
         content.old content.new (cause_in result) }
     // No record of a cache is visited.
     ensures nodes { (meter_in result).nodes ≡ 0 }
+    // Each rule is tried once for the name, each line for what is read of the content, and each type that is met for what was sniffed.
+    ensures bytes { (meter_in result).bytes ≤ order_bytes order (globs_suffice (plain_database database.entry.now) name.now order)
+        (tried_bytes database.entry.now.rules.items name.now) (tried_bytes database.entry.now.rules.items name.now)
+        (content_bytes (plain_database database.entry.now) (read_in result)) (choice_bytes (plain_database database.entry.now) name.now) }
 {
     look_up_over(alloc, &Lists { database }, name, content, host, order)
 }
@@ -89,10 +95,6 @@ impl<'a> Asked<'a> for Lists<'a> {
     ghost kept_bytes = { λ lists. tried_bytes lists.database.now.rules.items };
 
     ghost all_bytes = { λ lists. tried_bytes lists.database.now.rules.items };
-
-    ghost bounds_content = { λ lists. ⊥ };
-
-    ghost content_bytes = { λ lists size. 0 };
 
     #[tactic(auto, unfolding(crate::specs::Choice::kept))]
     fn kept_kinds(
@@ -164,6 +166,7 @@ fn first_section<'a>(
 ) -> Option<(&'a [u8], u32)>
     ensures first { plain_found result ≡ first_magic (plain_sections sections.entry.now) content.now host }
     ensures nodes { meter.new.nodes ≡ meter.old.nodes }
+    ensures bytes { meter.new.bytes ≤ meter.old.bytes + index_bytes (length content.now) (top_lines (plain_sections sections.entry.now)) }
 {
     for section in sections {
         if some_line_matches(&section.lines, content, host, meter) {

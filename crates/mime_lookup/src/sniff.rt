@@ -3,6 +3,7 @@
 ghost use Rattle.std.specs.Prelude.{◌≡◌, ◌+◌, ◌≤◌, false, length, IfErr, IfOk, IfSome, OnOk, Some};
 ghost use Rattle.mime_lookup.specs.CheckingOrder.{IsSniffed, IsSniffedFor, front_size, read_limit};
 ghost use Rattle.mime_lookup.specs.Content.{known_content};
+ghost use Rattle.mime_lookup.specs.IndexBytes.{content_bytes};
 ghost use Rattle.mime_lookup.specs.Reads.{IsReadOrMemory, UsesReader};
 ghost use Rattle.mime_lookup.specs.Sniffing.{FrontIsEnough, sniffed_by_bytes};
 
@@ -60,8 +61,8 @@ pub fn sniff_content<'a, A: Asked<'a>, R: Content>(
         content.old content.new read.new result }
     // No record of a cache is visited.
     ensures nodes { meter.new.nodes ≡ meter.old.nodes }
-    // No more bytes are compared than what was read allows, where they are bounded.
-    ensures bytes { A.bounds_content database.now → meter.new.bytes ≤ meter.old.bytes + A.content_bytes database.now read.new }
+    // No more bytes are compared than what was read allows.
+    ensures bytes { meter.new.bytes ≤ meter.old.bytes + content_bytes (A.plain database.now) read.new }
 {
     match content {
         Some(reader) => {
@@ -90,8 +91,8 @@ fn sniff<'a, A: Asked<'a>>(
     ensures sniffed { IsSniffed (A.plain database.now) (Some content.now) host result }
     // No record of a cache is visited.
     ensures nodes { meter.new.nodes ≡ meter.old.nodes }
-    // No more bytes are compared than the content's length allows, where they are bounded.
-    ensures bytes { A.bounds_content database.now → meter.new.bytes ≤ meter.old.bytes + A.content_bytes database.now (length content.now) }
+    // No more bytes are compared than the content's length allows.
+    ensures bytes { meter.new.bytes ≤ meter.old.bytes + content_bytes (A.plain database.now) (length content.now) }
 {
     match database.first_section(content, host, meter) {
         Some((kind, priority)) => Sniffed {

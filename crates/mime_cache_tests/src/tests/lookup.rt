@@ -149,7 +149,8 @@ fn is_answered_by_index(
         order,
         outcome,
     } = *asked;
-    let index = IndexedDatabase::new(alloc, database)?;
+    let mut index = IndexedDatabase::new(alloc, database)?;
+    index.prepare_magic(alloc)?;
     let mut content = content;
     let found = outcome_of(look_up_indexed(alloc, &index, file, &mut content, host, order));
     is_outcome(rt, name, "by the index", found, outcome);

@@ -89,10 +89,6 @@ impl<'a> Asked<'a> for IndexedDatabase<'a> {
 
     ghost all_bytes = { λ database. all_bytes database.rules.items };
 
-    ghost bounds_content = { λ database. Unit {0} };
-
-    ghost content_bytes = { λ database. content_bytes (plain_database database) };
-
     // Always inlined, so that the types are not moved.
     #[inline(always)]
     fn kept_kinds(
@@ -121,7 +117,10 @@ impl<'a> Asked<'a> for IndexedDatabase<'a> {
         host: Host,
         meter: &mut Meter,
     ) -> Option<(&'a [u8], u32)> {
-        first_section(&self.heads, content, host, meter)
+        match &self.magic {
+            Some(magic) => first_section(&magic.heads, content, host, meter),
+            None => self.lists().first_section(content, host, meter),
+        }
     }
 
     fn unalias(&self, kind: &'a [u8]) -> &'a [u8] {
@@ -140,7 +139,10 @@ impl<'a> Asked<'a> for IndexedDatabase<'a> {
     }
 
     fn front_limit(&self) -> usize {
-        self.limit
+        match &self.magic {
+            Some(magic) => magic.limit,
+            None => self.lists().front_limit(),
+        }
     }
 
     fn keeps_limits(&self) {

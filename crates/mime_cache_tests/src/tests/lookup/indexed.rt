@@ -186,7 +186,8 @@ fn are_alike(
 /// So they have over these texts for each name, with no content and with each.
 fn names_are_alike(rt: &impl Abort, alloc: Global, texts: Texts<'_>) -> Result<(), Fail> {
     let database = merged(alloc, &[texts])?;
-    let index = IndexedDatabase::new(alloc, &database)?;
+    let mut index = IndexedDatabase::new(alloc, &database)?;
+    index.prepare_magic(alloc)?;
     for &name in &NAMES {
         are_alike(rt, alloc, &database, &index, (name, None));
         are_alike(rt, alloc, &database, &index, (name, Some(b"G")));
@@ -206,11 +207,26 @@ fn names_and_contents(rt: HostRuntime) -> Result<(), Fail> {
     names_are_alike(&rt, rt.alloc(), EMPTY)
 }
 
+/// What is asked of an index has one outcome, whether its magic is prepared or not.
+#[test]
+fn magic_unprepared(rt: HostRuntime) -> Result<(), Fail> {
+    let alloc = rt.alloc();
+    let database = merged(alloc, &[TEXTS])?;
+    let index = IndexedDatabase::new(alloc, &database)?;
+    for &content in &CONTENTS {
+        are_alike(&rt, alloc, &database, &index, (b"none", Some(content)));
+        are_alike(&rt, alloc, &database, &index, (b"x.doc", Some(content)));
+    }
+    are_alike(&rt, alloc, &database, &index, (b"x.doc", None));
+    Ok(())
+}
+
 #[test]
 fn long_name(rt: HostRuntime) -> Result<(), Fail> {
     let alloc = rt.alloc();
     let database = merged(alloc, &[TEXTS])?;
-    let index = IndexedDatabase::new(alloc, &database)?;
+    let mut index = IndexedDatabase::new(alloc, &database)?;
+    index.prepare_magic(alloc)?;
     are_alike(&rt, alloc, &database, &index, (&[b'~'; 4096], Some(b"hi")));
     are_alike(&rt, alloc, &database, &index, (&[b'~'; 4097], Some(b"hi")));
     Ok(())
@@ -238,7 +254,8 @@ fn places_are_alike(
 fn places(rt: HostRuntime) -> Result<(), Fail> {
     let alloc = rt.alloc();
     let database = merged(alloc, &[TEXTS])?;
-    let index = IndexedDatabase::new(alloc, &database)?;
+    let mut index = IndexedDatabase::new(alloc, &database)?;
+    index.prepare_magic(alloc)?;
     for place in 278..291 {
         places_are_alike(&rt, alloc, &database, &index, place, b'Q');
         places_are_alike(&rt, alloc, &database, &index, place, b'R');

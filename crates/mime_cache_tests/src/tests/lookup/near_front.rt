@@ -140,7 +140,8 @@ fn values_near_the_end_of_the_front(rt: HostRuntime) -> Result<(), Fail> {
             ..EMPTY
         };
         let database = merged(alloc, &[texts])?;
-        let index = IndexedDatabase::new(alloc, &database)?;
+        let mut index = IndexedDatabase::new(alloc, &database)?;
+        index.prepare_magic(alloc)?;
         for &place in &PLACES {
             let last = content_of(alloc, row, place, b"")?;
             has_kind(&rt, alloc, &database, &index, &last, kind_at(row, place));

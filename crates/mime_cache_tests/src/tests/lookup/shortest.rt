@@ -104,7 +104,8 @@ fn fronts_have(rt: &impl Abort, alloc: Global, row: &Row) -> Result<(), Fail> {
             ..EMPTY
         }],
     )?;
-    let index = IndexedDatabase::new(alloc, &database)?;
+    let mut index = IndexedDatabase::new(alloc, &database)?;
+    index.prepare_magic(alloc)?;
     let bytes = write_cache(alloc, &database, LARGEST_CACHE)?;
     let lists = read_back(alloc, &Counted::new(&bytes), &mut Meter::new())?;
     let of_cache = MagicIndex::new(alloc, lists.magic)?;

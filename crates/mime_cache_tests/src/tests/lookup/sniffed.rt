@@ -86,7 +86,8 @@ fn heads(rt: HostRuntime) -> Result<(), Fail> {
         ..EMPTY
     };
     let database = merged(alloc, &[texts])?;
-    let index = IndexedDatabase::new(alloc, &database)?;
+    let mut index = IndexedDatabase::new(alloc, &database)?;
+    index.prepare_magic(alloc)?;
     for &content in &HEADED {
         changes_are_alike(&rt, alloc, &database, &index, content);
     }
@@ -128,7 +129,8 @@ fn ranges(rt: HostRuntime) -> Result<(), Fail> {
         ..EMPTY
     };
     let database = merged(alloc, &[texts])?;
-    let index = IndexedDatabase::new(alloc, &database)?;
+    let mut index = IndexedDatabase::new(alloc, &database)?;
+    index.prepare_magic(alloc)?;
     let values: [&[u8]; 9] = [
         b"abAB", b"cdCD", b"efEFG", b"ghij", b"KL", b"MNO", b"efEF", b"abAb", b"KKL",
     ];
@@ -165,7 +167,8 @@ fn places(rt: HostRuntime) -> Result<(), Fail> {
         ..EMPTY
     };
     let database = merged(alloc, &[texts])?;
-    let index = IndexedDatabase::new(alloc, &database)?;
+    let mut index = IndexedDatabase::new(alloc, &database)?;
+    index.prepare_magic(alloc)?;
     for place in [0, 1, 254, 255, 256, 257, 298, 299] {
         place_is_alike(&rt, alloc, &database, &index, b"Z", place);
         place_is_alike(&rt, alloc, &database, &index, b"ZZ", place);
@@ -195,7 +198,8 @@ fn chains(rt: HostRuntime) -> Result<(), Fail> {
         ..EMPTY
     };
     let database = merged(alloc, &[texts])?;
-    let index = IndexedDatabase::new(alloc, &database)?;
+    let mut index = IndexedDatabase::new(alloc, &database)?;
+    index.prepare_magic(alloc)?;
     for second in 0..255 {
         is_alike(&rt, alloc, &database, &index, &[b'A', second]);
         is_alike(&rt, alloc, &database, &index, &[b'A', second, b'B']);

@@ -28,5 +28,5 @@ returns-in_ok-front-in-Some-clause-read g c =
     _ (read.front.0))
 
 pub returns-in_ok-front-in-Some-clause-bytes : goal.returns-in_ok-front-in-Some-clause-bytes
-returns-in_ok-front-in-Some-clause-bytes g c = λ bounded.
-    rw (c.deref.ensures.value, c.in_ok-front-in-Some.ensures.front.0) at (c.sniff.ensures.bytes bounded)
+returns-in_ok-front-in-Some-clause-bytes g c =
+    rw (c.deref.ensures.value, c.in_ok-front-in-Some.ensures.front.0) at c.sniff.ensures.bytes

@@ -15,28 +15,28 @@ returns-clause-kept c =
     let name = c.args.name.now in
     let kinds = λ (rules : List GlobRule). map (λ (rule : GlobRule). rule.kind) (kept_rules rules name) in
     c.in_ok-kinds.ensures.kept
-    ∙ ap kinds c.index.invariant.named.are
+    ∙ ap kinds c.index.invariant.0.named.are
     ∙ ap (λ (d : Database). kinds (map (unaliased_rule (pairs_of (plain_database d)).aliases) d.rules.items)) c.index.view_is
     ∙ kept-step (pairs_of (plain_database c.args.index.now)) c.args.index.now.rules.items name c.keeps_limits.ensures.ranks
 
 pub returns-in_err-kinds-clause-nodes : goal.returns-in_err-kinds-clause-nodes
 returns-in_err-kinds-clause-nodes c =
     kept-nodes (pairs_of (plain_database c.args.index.now)).aliases _ c.args.index.now.rules.items c.args.name.now
-    (c.index.invariant.named.are
+    (c.index.invariant.0.named.are
     ∙ ap (λ (d : Database). map (unaliased_rule (pairs_of (plain_database d)).aliases) d.rules.items) c.index.view_is)
     c.args.meter.now.nodes c.kept_kinds-2.new.meter.nodes c.kept_kinds-2.ensures.near c.kept_kinds-2.ensures.texts
 
 pub returns-clause-nodes : goal.returns-clause-nodes
 returns-clause-nodes c =
     kept-nodes (pairs_of (plain_database c.args.index.now)).aliases _ c.args.index.now.rules.items c.args.name.now
-    (c.index.invariant.named.are
+    (c.index.invariant.0.named.are
     ∙ ap (λ (d : Database). map (unaliased_rule (pairs_of (plain_database d)).aliases) d.rules.items) c.index.view_is)
     c.args.meter.now.nodes c.kept_kinds-2.new.meter.nodes c.kept_kinds-2.ensures.near c.kept_kinds-2.ensures.texts
 
 pub returns-then-is_mostly_general-clause-bytes : goal.returns-then-is_mostly_general-clause-bytes
 returns-then-is_mostly_general-clause-bytes c =
     kept-tried (pairs_of (plain_database c.args.index.now)).aliases _ c.args.index.now.rules.items c.args.name.now
-    (c.index.invariant.named.are
+    (c.index.invariant.0.named.are
     ∙ ap (λ (d : Database). map (unaliased_rule (pairs_of (plain_database d)).aliases) d.rules.items) c.index.view_is)
     c.args.meter.now.bytes c.kept_kinds.new.meter.bytes c.is_mostly_general.result c.is_mostly_general.ensures
     c.if-is_mostly_general.true
@@ -46,7 +46,7 @@ returns-then-is_mostly_general-clause-bytes c =
 pub returns-in_err-kinds-clause-bytes : goal.returns-in_err-kinds-clause-bytes
 returns-in_err-kinds-clause-bytes c =
     kept-near (pairs_of (plain_database c.args.index.now)).aliases _ c.args.index.now.rules.items c.args.name.now
-    (c.index.invariant.named.are
+    (c.index.invariant.0.named.are
     ∙ ap (λ (d : Database). map (unaliased_rule (pairs_of (plain_database d)).aliases) d.rules.items) c.index.view_is)
     c.args.meter.now.bytes c.kept_kinds-2.new.meter.bytes c.is_mostly_general.result c.is_mostly_general.ensures
     c.if-is_mostly_general.false c.kept_kinds-2.ensures.bytes c.kept_kinds-2.ensures.text_bytes
@@ -54,7 +54,7 @@ returns-in_err-kinds-clause-bytes c =
 pub returns-clause-bytes : goal.returns-clause-bytes
 returns-clause-bytes c =
     kept-near (pairs_of (plain_database c.args.index.now)).aliases _ c.args.index.now.rules.items c.args.name.now
-    (c.index.invariant.named.are
+    (c.index.invariant.0.named.are
     ∙ ap (λ (d : Database). map (unaliased_rule (pairs_of (plain_database d)).aliases) d.rules.items) c.index.view_is)
     c.args.meter.now.bytes c.kept_kinds-2.new.meter.bytes c.is_mostly_general.result c.is_mostly_general.ensures
     c.if-is_mostly_general.false c.kept_kinds-2.ensures.bytes c.kept_kinds-2.ensures.text_bytes

@@ -12,8 +12,8 @@ returns-clause-first c =
     let inside = c.self.inside in
     subst (λ pairs. IfOk c.first_at.result
     (λ kind. IsFirst pairs c.args.base.now c.args.default.now (kinds_of c.args.kinds.now) kind.now))
-    (indexed_pairs inside.database.now c.args.self.now inside.names inside.pairs inside.heads inside.limit
-    c.self.invariant c.self.view_is)
+    (indexed_pairs inside.database.now c.args.self.now inside.names inside.pairs
+    c.self.invariant.0 c.self.view_is)
     c.first_at.ensures.first
 
 pub returns-clause-bytes : goal.returns-clause-bytes
@@ -21,6 +21,6 @@ returns-clause-bytes c =
     let inside = c.self.inside in
     subst (λ (pairs : Pairs). c.first_at.new.meter.bytes
     ≤ c.args.meter.now.bytes + search_bytes (length c.args.kinds.now) (length pairs.parents) (length c.args.base.now))
-    (indexed_pairs inside.database.now c.args.self.now inside.names inside.pairs inside.heads inside.limit
-    c.self.invariant c.self.view_is)
+    (indexed_pairs inside.database.now c.args.self.now inside.names inside.pairs
+    c.self.invariant.0 c.self.view_is)
     c.first_at.ensures.bytes
