@@ -27,8 +27,10 @@ IsOwed part cache told owed = IfSome owed (λ it. owed_for part cache told ≡ S
 
 -- What is to be prepared for a lookup, of which nothing is paid yet.
 pub record AreOwed (lookup : Lookup) (payments : Payments) : Type 0 where
-  -- An index is made once something was compared, or a content was asked for bytes.
+  -- An index is made once something was compared.
   pub index : IfSome payments.index (λ it. it ≡ record { paid = 0; cost = 1 })
+  -- Its magic is prepared once a content was asked for bytes.
+  pub lines : IfSome payments.lines (λ it. it ≡ record { paid = 0; cost = 1 })
   -- What names need costs so much.
   pub names : IsOwed Names (bytes_in lookup.by) (tells_cost lookup.by) payments.names
   -- So does the magic list.
@@ -45,10 +47,12 @@ is_due None = false
 
 -- nothing is paid
 abbrev pub IsUnpaid : Payments → Type 0
-IsUnpaid payments = (is_due payments.index ≡ false) × (is_due payments.names ≡ false) × (is_due payments.magic ≡ false)
+IsUnpaid payments =
+    (is_due payments.lines ≡ false) × (is_due payments.index ≡ false) × (is_due payments.names ≡ false) × (is_due payments.magic ≡ false)
 
 -- what is paid is taken, and is never due again; there is nothing only where nothing is paid
 abbrev pub TakesDue : Payments → Payments → Option Due → Type 0
+TakesDue old new (Some due.Lines) = (is_due old.lines ≡ true) × (new ≡ record old { lines = None })
 TakesDue old new (Some due.Index) = (is_due old.index ≡ true) × (new ≡ record old { index = None })
 TakesDue old new (Some (due.Part Names)) = (is_due old.names ≡ true) × (new ≡ record old { names = None })
 TakesDue old new (Some (due.Part Magic)) = (is_due old.magic ≡ true) × (new ≡ record old { magic = None })

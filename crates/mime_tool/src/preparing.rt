@@ -1,7 +1,7 @@
 //! What is prepared in a run that looks up many FILEs.
 //!
-//! Of a database there is an index, which is made once an answer has compared something, or asked a content for bytes: so never for one
-//! FILE alone, nor for what is refused.
+//! Of a database there is an index, which is made once an answer has compared something, and its magic is prepared once one has asked a
+//! content for bytes: so neither for one FILE alone, nor for what is refused, and no magic for names alone.
 //!
 //! Of a cache what names need is read back, and the magic list, into an index of each. That is done once the answers of the run have
 //! visited as many records as reading back may visit, and twice as many for magic: for names all answers, and for magic those whose
@@ -76,11 +76,37 @@ impl<'i, 'a> Prepared<'i, 'a> {
                 let known = self.cache.take();
                 self.cache = read_back(alloc, self.lookup.by, part, known, &mut Meter::new());
             }
-            Due::Index => {
-                if let Data::Database(database) = self.lookup.by {
-                    self.index_over(alloc, database);
-                }
+            Due::Index => self.make_index(alloc),
+            Due::Lines => {
+                self.make_index(alloc);
+                self.prepare_magic(alloc);
             }
+        }
+    }
+
+    // Makes the index of a database in which FILEs are looked up, unless it is made.
+    fn make_index(&mut self, alloc: Global)
+        requires { IsOfSource self.old }
+        ensures lookup { self.new.lookup ≡ self.old.lookup }
+        ensures prepared { IsOfSource self.new }
+    {
+        if self.index.is_some() {
+            return;
+        }
+        if let Data::Database(database) = self.lookup.by {
+            self.index_over(alloc, database);
+        }
+    }
+
+    // Prepares the magic of the index, if it is made and there is memory for that.
+    fn prepare_magic(&mut self, alloc: Global)
+        requires { IsOfSource self.old }
+        ensures lookup { self.new.lookup ≡ self.old.lookup }
+        ensures prepared { IsOfSource self.new }
+    {
+        if let Some(index) = &mut self.index {
+            // Where memory is refused, all lines are tried as before.
+            let _ = index.prepare_magic(alloc);
         }
     }
 

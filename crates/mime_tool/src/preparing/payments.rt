@@ -24,6 +24,8 @@ pub(crate) enum Part {
 pub(crate) enum Due {
     /// The index of a database.
     Index,
+    /// The magic of that index.
+    Lines,
     /// A part of a cache.
     Part(Part),
 }
@@ -32,6 +34,7 @@ pub(crate) enum Due {
 #[derive(Clone, Copy)]
 pub(crate) struct Payments {
     index: Option<Prepaid>,
+    lines: Option<Prepaid>,
     names: Option<Prepaid>,
     magic: Option<Prepaid>,
     /// How many records of the glob list a name visits.
@@ -48,12 +51,14 @@ impl Payments {
             Data::Cache { bytes, cost, .. } => Payments::for_parts(lookup, bytes, cost),
             Data::Database(_) => Payments {
                 index: Some(Prepaid::new(1)),
+                lines: Some(Prepaid::new(1)),
                 names: None,
                 magic: None,
                 listed: 0,
             },
             Data::Indexed(_) | Data::Opened { .. } => Payments {
                 index: None,
+                lines: None,
                 names: None,
                 magic: None,
                 listed: 0,
@@ -84,6 +89,7 @@ impl Payments {
         };
         Payments {
             index: None,
+            lines: None,
             names,
             magic,
             listed,
@@ -91,19 +97,23 @@ impl Payments {
     }
 
     /// Counts what a FILE visited: that pays for what names need, and for the magic list too, less the entries of the glob list, if its
-    /// content was asked for bytes. What was compared pays for an index, and so does a content that was asked for bytes and has none.
+    /// content was asked for bytes. What was compared pays for an index, and a content that was asked for bytes, whether it has any, pays
+    /// for the magic of it.
     #[inline]
     pub(crate) fn count(&mut self, outcome: &Outcome<'_>, asked: bool) {
         let Outcome::Typed(_, cost) = outcome else {
             return;
         };
         if let Some(index) = &mut self.index {
-            index.pay(cost.meter.bytes.max(u64::from(asked)));
+            index.pay(cost.meter.bytes);
         }
         if let Some(names) = &mut self.names {
             names.pay(cost.meter.nodes);
         }
         if asked {
+            if let Some(lines) = &mut self.lines {
+                lines.pay(1);
+            }
             if let Some(magic) = &mut self.magic {
                 magic.pay(cost.meter.nodes.saturating_sub(self.listed));
             }
@@ -117,6 +127,10 @@ impl Payments {
         // What is paid is given once, and nothing only where nothing is paid.
         ensures { TakesDue self.old self.new result }
     {
+        if is_due(self.lines) {
+            self.lines = None;
+            return Some(Due::Lines);
+        }
         if is_due(self.index) {
             self.index = None;
             return Some(Due::Index);
