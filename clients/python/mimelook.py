@@ -21,6 +21,7 @@ import stat
 import threading
 import weakref
 from collections.abc import Callable, Iterable, Sequence
+from contextlib import AbstractContextManager, suppress
 from ctypes import CDLL, POINTER, Structure, addressof, byref, create_string_buffer, string_at
 from ctypes import c_bool, c_char_p, c_size_t, c_uint16, c_uint32, c_uint64, c_void_p
 from enum import IntEnum
@@ -106,7 +107,7 @@ class Icons(NamedTuple):
     generic: str
 
 
-class Cache:
+class Cache(AbstractContextManager["Cache"]):
     """A cache that is open, from its bytes."""
 
     def __init__(self, data: bytes) -> None:
@@ -124,9 +125,6 @@ class Cache:
         """Gives back what is kept; then each call raises a Fault."""
         with self._turn:
             self._closing()
-
-    def __enter__(self) -> Cache:
-        return self
 
     def __exit__(self, *_: object) -> None:
         self.close()
@@ -194,10 +192,9 @@ class Cache:
 
     def icons(self, kind: Name) -> Icons:
         """The names of a type's icons: those that the cache lists, else names that are made of the type."""
-        icon, generic, lengths = create_string_buffer(_ICON_ROOM), create_string_buffer(_ICON_ROOM), _IconLengths()
-        rooms = icon, _ICON_ROOM, generic, _ICON_ROOM
-        return self._ask("icons", lambda: Icons(_front_of(icon, lengths.icon), _front_of(generic, lengths.generic)), *_bytes(kind), *rooms,
-            byref(lengths))
+        icon, generic, lengths = create_string_buffer(_ICON_ROOM), create_string_buffer(_ICON_ROOM), (c_size_t * 2)()
+        given = *_bytes(kind), icon, _ICON_ROOM, generic, _ICON_ROOM, lengths
+        return self._ask("icons", lambda: Icons(_text(icon.raw[: lengths[0]]), _text(generic.raw[: lengths[1]])), *given)
 
     def _array(self, what: str, item: Any, tell: Callable[[Any], _Told], asked: Name) -> list[_Told]:
         """What a call writes into an array, which is asked for twice where there is anything."""
@@ -226,16 +223,7 @@ def version() -> str:
 
 
 class _Report(Structure):
-    _fields_ = [
-        ("status", c_uint32),
-        ("major", c_uint16),
-        ("minor", c_uint16),
-        ("at", c_uint64),
-        ("read", c_uint64),
-        ("nodes", c_uint64),
-        ("bytes", c_uint64),
-        ("spare", c_uint64 * 3),
-    ]
+    _fields_ = [("status", c_uint32), ("version", c_uint16 * 2), ("at", c_uint64), ("cost", c_uint64 * 3), ("spare", c_uint64 * 3)]
 
 
 class _Text(Structure):
@@ -250,13 +238,7 @@ class _Text(Structure):
 
 
 class _Hit(Structure):
-    _fields_ = [
-        ("type", _Text),
-        ("weight", c_uint32),
-        ("case_sensitive", c_uint16),
-        ("kept", c_uint16),
-        ("spare", c_uint64 * 2),
-    ]
+    _fields_ = [("type", _Text), ("weight", c_uint32), ("case_sensitive", c_uint16), ("kept", c_uint16), ("spare", c_uint64 * 2)]
 
     @classmethod
     def empty(cls) -> _Hit:
@@ -271,10 +253,6 @@ class _Sniffed(Structure):
     _fields_ = [("type", _Text), ("priority", c_uint32), ("holds", c_uint32), ("spare", c_uint64 * 3)]
 
 
-class _IconLengths(Structure):
-    _fields_ = [("icon", c_size_t), ("generic", c_size_t)]
-
-
 class _Slice(Structure):
     _fields_ = [("at", c_char_p), ("length", c_size_t)]
 
@@ -284,39 +262,33 @@ class _MergeReport(Structure):
 
 
 _TEXT_FILES = ("globs2", "magic", "aliases", "subclasses", "icons", "generic-icons")
-
-
-class _Directory(Structure):
-    _fields_ = [(name.replace("-", "_"), _Slice) for name in _TEXT_FILES]
-
-
+_Directory = _Slice * len(_TEXT_FILES)
 _NOTHING = create_string_buffer(1)
 _ICON_ROOM = 265
 _BYTES = (c_char_p, c_size_t)
-_CALLS = {
-    "look_up": (*_BYTES, *_BYTES, c_uint32, POINTER(_Answer)),
-    "hits": (*_BYTES, POINTER(_Hit), c_size_t, POINTER(c_size_t)),
-    "sniff": (*_BYTES, POINTER(_Sniffed)),
-    "is_a": (*_BYTES, *_BYTES, POINTER(c_bool)),
-    "parents": (*_BYTES, POINTER(_Text), c_size_t, POINTER(c_size_t)),
-    "unalias": (*_BYTES, POINTER(_Text)),
-    "icons": (*_BYTES, *_BYTES, *_BYTES, POINTER(_IconLengths)),
+_FUNCTIONS = {
+    "open": (_Report, *_BYTES, POINTER(c_void_p)),
+    "open_directories": (_MergeReport, POINTER(_Directory), c_size_t, POINTER(c_void_p)),
+    "close": (None, c_void_p),
+    "is_type_name": (c_bool, *_BYTES),
+    "status_text": (c_char_p, c_uint32),
+    "version": (c_char_p,),
+    "database_look_up": (_Report, c_void_p, *_BYTES, *_BYTES, c_uint32, POINTER(_Answer)),
+    "database_hits": (_Report, c_void_p, *_BYTES, POINTER(_Hit), c_size_t, POINTER(c_size_t)),
+    "database_sniff": (_Report, c_void_p, *_BYTES, POINTER(_Sniffed)),
+    "database_is_a": (_Report, c_void_p, *_BYTES, *_BYTES, POINTER(c_bool)),
+    "database_parents": (_Report, c_void_p, *_BYTES, POINTER(_Text), c_size_t, POINTER(c_size_t)),
+    "database_unalias": (_Report, c_void_p, *_BYTES, POINTER(_Text)),
+    "database_icons": (_Report, c_void_p, *_BYTES, *_BYTES, *_BYTES, POINTER(c_size_t)),
 }
 
 
 def _loaded() -> CDLL:
     """The library with the types of its functions."""
     library = CDLL(os.environ.get("MIMELOOK_LIBRARY") or "libmimelook.so.1")
-    for name, words in _CALLS.items():
-        function = getattr(library, f"mimelook_database_{name}")
-        function.argtypes, function.restype = (c_void_p, *words), _Report
-    library.mimelook_open.argtypes, library.mimelook_open.restype = (*_BYTES, POINTER(c_void_p)), _Report
-    library.mimelook_close.argtypes, library.mimelook_close.restype = (c_void_p,), None
-    library.mimelook_open_directories.argtypes = (POINTER(_Directory), c_size_t, POINTER(c_void_p))
-    library.mimelook_open_directories.restype = _MergeReport
-    library.mimelook_is_type_name.argtypes, library.mimelook_is_type_name.restype = _BYTES, c_bool
-    library.mimelook_status_text.argtypes, library.mimelook_status_text.restype = (c_uint32,), c_char_p
-    library.mimelook_version.argtypes, library.mimelook_version.restype = (), c_char_p
+    for name, (gives, *takes) in _FUNCTIONS.items():
+        function = getattr(library, f"mimelook_{name}")
+        function.restype, function.argtypes = gives, takes
     return library
 
 
@@ -328,10 +300,6 @@ def _bytes(given: Name) -> tuple[bytes, int]:
 
 def _text(found: bytes) -> str:
     return found.decode("utf-8", "surrogateescape")
-
-
-def _front_of(buffer: Any, length: int) -> str:
-    return _text(buffer.raw[:length])
 
 
 def _close(handle: c_void_p, _data: bytes) -> None:
@@ -354,14 +322,12 @@ def _front(path: Path, wanted: int) -> bytes:
 
 
 def _texts_of(directory: Path) -> list[bytes]:
-    """The text files of a data directory."""
-    texts = []
-    for name in _TEXT_FILES:
-        try:
-            with open(os.path.join(os.fsencode(directory), b"mime", name.encode()), "rb") as file:
-                texts.append(file.read())
-        except (FileNotFoundError, NotADirectoryError):
-            texts.append(b"")
+    """The text files of a data directory; one that is missing is empty."""
+    texts = [b""] * len(_TEXT_FILES)
+    for number, name in enumerate(_TEXT_FILES):
+        path = os.path.join(os.fsencode(directory), b"mime", name.encode())
+        with suppress(FileNotFoundError, NotADirectoryError), open(path, "rb") as file:
+            texts[number] = file.read()
     return texts
 
 
