@@ -2478,6 +2478,68 @@
 
 	.section	.text.unlikely,"ax",@progbits
 	.p2align	4
+	.type	"std_alloc::vec::Vec::grow_amortized::<#75574408efed45b1>",@function
+"std_alloc::vec::Vec::grow_amortized::<#75574408efed45b1>":
+	movq	8(%rdi), %rax
+	cmpq	$-1, %rax
+	je	2f
+	pushq	%r14
+	pushq	%rbx
+	pushq	%rax
+	movq	16(%rdi), %rcx
+	cmpq	$4, %rax
+	movl	$3, %ebx
+	cmovaeq	%rax, %rbx
+	incq	%rbx
+	movq	%rcx, %rsi
+	shrq	$62, %rsi
+	leaq	(%rcx,%rcx), %rdx
+	cmpq	%rdx, %rbx
+	cmovaq	%rbx, %rdx
+	testq	%rsi, %rsi
+	cmoveq	%rdx, %rbx
+	movabsq	$164703072086692425, %rsi
+	cmpq	%rsi, %rbx
+	ja	4f
+	testq	%rcx, %rcx
+	je	3f
+	movq	%rdi, %r14
+	movq	(%rdi), %rdi
+	imulq	$56, %rax, %rsi
+	imulq	$56, %rbx, %rdx
+	movl	$8, %ecx
+	callq	rattle_realloc@PLT
+	testb	$1, %al
+	je	4f
+1:
+	movq	%rdx, (%r14)
+	movq	%rbx, 16(%r14)
+	movb	$1, %al
+	addq	$8, %rsp
+	popq	%rbx
+	popq	%r14
+	retq
+2:
+	xorl	%eax, %eax
+	retq
+3:
+	movq	%rdi, %r14
+	imulq	$56, %rdx, %rdi
+	movl	$8, %esi
+	callq	rattle_alloc@PLT
+	testb	$1, %al
+	jne	1b
+4:
+	xorl	%eax, %eax
+	addq	$8, %rsp
+	popq	%rbx
+	popq	%r14
+	retq
+5:
+	.size	"std_alloc::vec::Vec::grow_amortized::<#75574408efed45b1>", 5b-"std_alloc::vec::Vec::grow_amortized::<#75574408efed45b1>"
+
+	.section	.text.unlikely,"ax",@progbits
+	.p2align	4
 	.type	"std_alloc::vec::Vec::grow_amortized::<#84a938a65d12231e>",@function
 "std_alloc::vec::Vec::grow_amortized::<#84a938a65d12231e>":
 	movq	8(%rdi), %rax
@@ -2541,70 +2603,6 @@
 	retq
 5:
 	.size	"std_alloc::vec::Vec::grow_amortized::<#84a938a65d12231e>", 5b-"std_alloc::vec::Vec::grow_amortized::<#84a938a65d12231e>"
-
-	.section	.text.unlikely,"ax",@progbits
-	.p2align	4
-	.type	"std_alloc::vec::Vec::grow_amortized::<#8771ec98a1ead3d6>",@function
-"std_alloc::vec::Vec::grow_amortized::<#8771ec98a1ead3d6>":
-	movq	8(%rdi), %rsi
-	cmpq	$-1, %rsi
-	je	2f
-	pushq	%r14
-	pushq	%rbx
-	pushq	%rax
-	movq	16(%rdi), %rcx
-	cmpq	$4, %rsi
-	movl	$3, %ebx
-	cmovaeq	%rsi, %rbx
-	incq	%rbx
-	movq	%rcx, %rdx
-	shrq	$62, %rdx
-	leaq	(%rcx,%rcx), %rax
-	cmpq	%rax, %rbx
-	cmovaq	%rbx, %rax
-	testq	%rdx, %rdx
-	cmoveq	%rax, %rbx
-	movq	%rbx, %rdx
-	shrq	$59, %rdx
-	jne	4f
-	testq	%rcx, %rcx
-	je	3f
-	movq	%rdi, %r14
-	movq	(%rdi), %rdi
-	shlq	$4, %rsi
-	movq	%rbx, %rdx
-	shlq	$4, %rdx
-	movl	$8, %ecx
-	callq	rattle_realloc@PLT
-	testb	$1, %al
-	je	4f
-1:
-	movq	%rdx, (%r14)
-	movq	%rbx, 16(%r14)
-	movb	$1, %al
-	addq	$8, %rsp
-	popq	%rbx
-	popq	%r14
-	retq
-2:
-	xorl	%eax, %eax
-	retq
-3:
-	movq	%rdi, %r14
-	shlq	$4, %rax
-	movl	$8, %esi
-	movq	%rax, %rdi
-	callq	rattle_alloc@PLT
-	testb	$1, %al
-	jne	1b
-4:
-	xorl	%eax, %eax
-	addq	$8, %rsp
-	popq	%rbx
-	popq	%r14
-	retq
-5:
-	.size	"std_alloc::vec::Vec::grow_amortized::<#8771ec98a1ead3d6>", 5b-"std_alloc::vec::Vec::grow_amortized::<#8771ec98a1ead3d6>"
 
 	.section	.text.unlikely,"ax",@progbits
 	.p2align	4

@@ -10,40 +10,43 @@
 	pushq	%rbx
 	pushq	%rax
 	testq	%rsi, %rsi
-	je	2f
-	movq	%rsi, %rbx
-	movq	%rdi, %r14
-	xorl	%r15d, %r15d
+	je	3f
+	movq	%rsi, %r14
+	movq	%rdi, %r15
+	xorl	%ebx, %ebx
+	jmp	2f
 	.p2align	4
 1:
-	movq	%r15, %r12
-	movl	(%r14), %eax
-	movl	4(%r14), %r15d
-	addq	%rax, %r15
-	addq	24(%r14), %r15
-	movq	72(%r14), %rdi
-	movq	80(%r14), %rsi
-	callq	"mime_base::magic::extent::lines_extent"
-	cmpq	%r15, %rax
-	cmovaq	%rax, %r15
-	cmpq	%r15, %r12
-	cmovaq	%r12, %r15
-	addq	$96, %r14
-	decq	%rbx
-	jne	1b
-	jmp	3f
+	cmpq	%r12, %rbx
+	cmovbeq	%r12, %rbx
+	addq	$96, %r15
+	decq	%r14
+	je	4f
 2:
-	xorl	%r15d, %r15d
+	movl	(%r15), %eax
+	movl	4(%r15), %r12d
+	addq	%rax, %r12
+	addq	24(%r15), %r12
+	movq	80(%r15), %rsi
+	testq	%rsi, %rsi
+	je	1b
+	movq	72(%r15), %rdi
+	callq	"mime_base::magic::extent::lines_extent"
+	cmpq	%r12, %rax
+	cmovaq	%rax, %r12
+	jmp	1b
 3:
-	movq	%r15, %rax
+	xorl	%ebx, %ebx
+4:
+	movq	%rbx, %rax
 	addq	$8, %rsp
 	popq	%rbx
 	popq	%r12
 	popq	%r14
 	popq	%r15
 	retq
-4:
-	.size	"mime_base::magic::extent::lines_extent", 4b-"mime_base::magic::extent::lines_extent"
+5:
+	.size	"mime_base::magic::extent::lines_extent", 5b-"mime_base::magic::extent::lines_extent"
 
 	.text
 	.p2align	4
