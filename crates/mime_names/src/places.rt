@@ -89,20 +89,16 @@ pub fn all_places(
     Ok(found)
 }
 
-/// Sorts places.
+/// Sorts places, where they don't rise already, as those of one chain do.
 // Always inlined: most are one or two.
 #[inline(always)]
 fn in_order(places: &mut Found)
     ensures sorted { IsNonDecreasing places.new.items }
     ensures permutation { IsPermutation places.old.items places.new.items }
 {
-    if places.len() > 1 {
-        let places = places.as_mut_slice();
-        // A chain gives its places the last first.
-        places.reverse();
-        if !places.is_sorted() {
-            places.sort_unstable();
-        }
+    let places = places.as_mut_slice();
+    if !places.is_sorted() {
+        places.sort_unstable();
     }
 }
 
@@ -161,15 +157,15 @@ fn push_key(
     ensures bytes { meter.new.bytes ≡ meter.old.bytes }
 {
     // Most nodes have no rule.
-    if table.chains.lasts[key] == 0 {
+    if table.chains.firsts[key] == 0 {
         meter.add_node();
         return Ok(());
     }
     push_chain(
         found,
         &table.keys,
-        &table.chains.lasts,
-        &table.chains.olders,
+        &table.chains.firsts,
+        &table.chains.nexts,
         key,
         meter,
     )

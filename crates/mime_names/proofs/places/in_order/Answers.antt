@@ -1,5 +1,5 @@
 use Rattle.std.proofs.Common.{rules, sym, true}
-use Rattle.std.proofs.lemmas.List.Sorted.{IsNonDecreasingBy-from_sort, IsPermutation-trans, non_decreasing_from_is_sorted}
+use Rattle.std.proofs.lemmas.List.Sorted.{IsNonDecreasingBy-from_sort, non_decreasing_from_is_sorted}
 use Rattle.smallvec.proofs.SmallVecLemmas.{items-with_items}
 use Rattle.mime_names.proofs.places.in_order.Goals as goal
 
@@ -11,9 +11,9 @@ returns-then-not-is_sorted-clause-sorted c =
 pub returns-then-not-is_sorted-clause-permutation : goal.returns-then-not-is_sorted-clause-permutation
 returns-then-not-is_sorted-clause-permutation c =
     rw (items-with_items c.args.places.now c.sort_unstable.new.self (search rules), sym c.as_mut_slice-places.ensures.value)
-    (IsPermutation-trans _ _ _ c.reverse.ensures.permutation c.sort_unstable.ensures.permutation)
+    c.sort_unstable.ensures.permutation
 
 pub returns-else-not-is_sorted-clause-sorted : goal.returns-else-not-is_sorted-clause-sorted
 returns-else-not-is_sorted-clause-sorted c =
-    rw (items-with_items c.args.places.now c.reverse.new.self (search rules))
-    (non_decreasing_from_is_sorted c.reverse.new.self true c.if-not-is_sorted.ensures.cases)
+    rw (items-with_items c.args.places.now c.as_mut_slice-places.result.now (search rules))
+    (non_decreasing_from_is_sorted c.as_mut_slice-places.result.now true c.if-not-is_sorted.ensures.cases)

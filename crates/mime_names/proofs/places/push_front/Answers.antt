@@ -26,3 +26,12 @@ returns-clause-adds c =
       omega (arith, own, folded-below (get_or name 0 0) (omega (arith, c.type_inv.name 0))),
       begins-from name key (omega (arith, c.if-name-eq0.false)) own,
     ))) c.push_key.ensures.adds
+
+pub returns-in_err-push_key-clause-adds : goal.returns-in_err-push_key-clause-adds
+returns-in_err-push_key-clause-adds c =
+    let name = c.args.name.now in
+    adds-stronger c.args.table.now.keys.items (λ key. key ≡ c.from-key.result) (λ key. (key < 256) × Begins name key) _ _
+    (λ key is. (let own = is ∙ c.from-key.ensures ∙ c.as_compared.ensures in (
+      omega (arith, own, folded-below (get_or name 0 0) (omega (arith, c.type_inv.name 0))),
+      begins-from name key (omega (arith, c.if-name-eq0.false)) own,
+    ))) c.push_key.ensures.adds
