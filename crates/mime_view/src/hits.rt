@@ -289,13 +289,17 @@ fn read_every_rule<'a>(
 }
 
 /// Puts the hits of the greatest rank first; those of one rank stay in their order. Up to 20 need no allocation.
+// Always inlined: most names have one hit at most.
+#[inline(always)]
 fn sort_by_rank(alloc: Global, hits: &mut SmallVec<(u32, u32), FEW>) -> Result<(), CacheFault>
     // The hits are by falling rank then.
     ensures sorted { OnOk result (hits.new.items ≡ falling (λ hit. hit.0) hits.old.items) }
     // Only memory can be short.
     ensures fault { IfErr result (λ e. e ≡ CacheFault.OutOfMemory) }
 {
-    hits.sort_by(alloc, |left, right| right.0.cmp(&left.0))?;
+    if hits.len() > 1 {
+        hits.sort_by(alloc, |left, right| right.0.cmp(&left.0))?;
+    }
     Ok(())
 }
 

@@ -93,3 +93,9 @@ length-falling number (item ∷ items) = length-insert number item (falling numb
 pub length-in_order : (which : Which) (offers : List (ℕ × ℕ)) → length (in_order which offers) ≡ length offers
 length-in_order Kept offers = refl
 length-in_order Candidates offers = length-falling offered_rank offers
+
+-- one item, or none, is in the order of falling numbers
+pub falling-one : {A : Type 0} (number : A → ℕ) (items : List A) → length items ≤ 1 → items ≡ falling number items
+falling-one number [] few = refl
+falling-one number (item ∷ []) few = refl
+falling-one number (item ∷ second ∷ items) few = absurd (omega (arith, few))
