@@ -104,6 +104,8 @@ pub(crate) fn print_line<D: Desk>(
 
 // What a file comes to: by its kind, where that is asked for and it is no regular file, or looked up. It says whether a content was
 // asked for bytes.
+// Always inlined: the outcome is not moved.
+#[inline(always)]
 fn outcome_of<'i, D: Desk>(
     desk: &mut D,
     lookup: Lookup<'i, '_>,
@@ -141,6 +143,8 @@ fn inode_name<'a>(kind: Inode) -> &'a [u8]
 }
 
 // What a file that is looked up comes to. It is opened first, unless its name alone is asked for.
+// Always inlined, as its caller is.
+#[inline(always)]
 fn file_outcome<'i, D: Desk>(
     desk: &mut D,
     lookup: Lookup<'i, '_>,
@@ -162,6 +166,8 @@ fn file_outcome<'i, D: Desk>(
 }
 
 // What a file comes to, and whether its content was asked for bytes.
+// Always inlined, as its caller is.
+#[inline(always)]
 fn find_watched<'i, R: Content + Drop>(
     alloc: Global,
     lookup: Lookup<'i, '_>,

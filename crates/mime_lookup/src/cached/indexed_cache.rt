@@ -32,6 +32,7 @@ use crate::cached::ancestry::first_of;
 use crate::cached::magic_of::read_magic;
 use crate::cached::name_types::{NameTypes, types_of};
 use crate::cached::sniff::{Finding, sniff_front, sniff_indexed};
+use crate::fixed::OCTET_STREAM;
 use crate::indexed::magic_index::MagicIndex;
 use crate::read_back::icons::IndexedIcons;
 use crate::read_back::name_types::{IndexedTypes, types_of as types_indexed};
@@ -232,6 +233,8 @@ impl<'a> IndexedCache<'a> {
     /// What is found in a front of a content, as if it were the whole.
     ///
     /// It goes by the index where nothing is taken of the budget after it, and as much is left as a walk takes.
+    // Always inlined: a lookup of a name alone has no front.
+    #[inline(always)]
     pub fn sniff_front(
         &self,
         front: Option<&[u8]>,
@@ -257,8 +260,9 @@ impl<'a> IndexedCache<'a> {
         // Whatever the bytes are, a value byte costs as many bytes as the front has, and one.
         ensures cost { Costs 256 (front_length (bytes_of front.entry) + 1) 1 spending.old spending.new }
     {
-        match &self.magic {
-            Some(index) if is_last && self.has_room_for_magic(spending) => {
+        match (front, &self.magic) {
+            (None, _) => Ok(Finding::Fixed(OCTET_STREAM)),
+            (_, Some(index)) if is_last && self.has_room_for_magic(spending) => {
                 Ok(sniff_indexed(index, front, host))
             }
             _ => sniff_front(&self.cache, front, host, spending),
