@@ -10,7 +10,7 @@ use Rattle.mime_load.specs.declared.line.LentLine.{LentLine}
 use Rattle.mime_lookup.specs.CheckingOrder.{read_limit}
 use Rattle.mime_lookup.specs.Heads.{AreLineHeads, AreNoneShorter}
 use Rattle.mime_lookup.specs.Pairs.{ArePaired}
-use Rattle.mime_lookup.specs.Places.{ArePlaced}
+use Rattle.mime_lookup.specs.Places.{ArePlaced, IsPlaced}
 use Rattle.mime_lookup.specs.Tables.{AreTables, OwnsLines}
 use Rattle.mime_lookup.specs.TopLines.{PlainTop, lent_matchlet, lent_top, plain_tops, top_lines}
 use Rattle.mime_lookup.specs.declared.indexed.line_head.LineHead.{LineHead}
@@ -19,6 +19,7 @@ use Rattle.mime_lookup.specs.declared.indexed.prepared_magic.PreparedMagic.{Prep
 use Rattle.mime_lookup.specs.declared.indexed.tables.Tables.{Tables}
 use Rattle.mime_lookup.specs.declared.indexed.top_line.TopLine.{TopLine}
 use Rattle.mime_lookup.specs.declared.places.PlacedPairs.{PlacedPairs}
+use Rattle.mime_lookup.specs.declared.places.Places.{Places}
 use Rattle.mime_names.specs.Index.{PlainIndex}
 
 -- a rule whose type went one alias step
@@ -62,3 +63,9 @@ pub record IsPreparedMagic (database : Database) (magic : PreparedMagic) : Type 
   pub limits : magic.limit ≡ read_limit (plain_database database)
   -- Something is read.
   pub some : 0 < magic.limit
+
+-- the magic of a database, and the places of its aliases
+pub record IsMagicOf (database : Database) (aliases : Places) (magic : PreparedMagic) : Type 0 where
+  pub prepared : IsPreparedMagic database magic
+  pub placed : IsPlaced aliases
+  pub are : aliases.pairs.now ≡ database.aliases.items

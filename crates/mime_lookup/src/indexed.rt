@@ -4,6 +4,7 @@
 //! name are found by an index over them, and the places of aliases and subclass pairs are known.
 
 pub mod candidates;
+pub mod database_magic;
 pub mod first_line;
 pub mod heads;
 pub mod hits;

@@ -16,8 +16,8 @@
 //! [`icon_again`] and [`hits_again`]. A [`PaidCache`] is read back once its answers have paid for that.
 //! [`look_up_plain`] answers the same by trying every rule, line and pair of a database, and so do [`is_a_plain`] and
 //! [`icon_of_plain`] for one question. [`look_up_indexed`], [`hits_indexed`] and [`is_a_indexed`] go by an [`IndexedDatabase`] that is made of
-//! one for many questions, and [`icon_of_indexed`] by its [`DatabaseIcons`]. A [`MagicIndex`] is made of the magic that was read
-//! back from a cache.
+//! one for many questions, [`look_up_by_magic`] by its [`DatabaseMagic`], for contents alone, and [`icon_of_indexed`] by its
+//! [`DatabaseIcons`]. A [`MagicIndex`] is made of the magic that was read back from a cache.
 //!
 //! Read `cached` first, which has the two halves of a lookup: `cached::by_name`, what a name gives by
 //! itself, and `cached::by_content`, what a front of the content then gives. Then what these take in
@@ -66,6 +66,7 @@ pub use cached::{
 };
 pub use content::{Content, ReadFault, Untold};
 pub use indexed::IndexedDatabase;
+pub use indexed::database_magic::{DatabaseMagic, look_up_by_magic};
 pub use indexed::hits::hits_indexed;
 pub use indexed::icons::{DatabaseIcons, icon_of_indexed};
 pub use indexed::look_up::look_up_indexed;

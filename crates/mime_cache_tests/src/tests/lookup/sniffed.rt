@@ -4,7 +4,9 @@ use super::outcome_of;
 use crate::tests::checked::alike;
 use crate::tests::texts::{EMPTY, Texts, merged};
 use mime_base::{Database, Host};
-use mime_lookup::{IndexedDatabase, Order, look_up_indexed, look_up_plain};
+use mime_lookup::{
+    DatabaseMagic, IndexedDatabase, Order, look_up_by_magic, look_up_indexed, look_up_plain,
+};
 use std::alloc::{AllocError, Global};
 use std::process::Abort;
 use std::test::Fail;
@@ -90,6 +92,42 @@ fn heads(rt: HostRuntime) -> Result<(), Fail> {
     index.prepare_magic(alloc)?;
     for &content in &HEADED {
         changes_are_alike(&rt, alloc, &database, &index, content);
+    }
+    Ok(())
+}
+
+/// A name and a content have one outcome by the lists and by the magic alone.
+fn is_alike_by_magic(
+    rt: &impl Abort,
+    alloc: Global,
+    database: &Database,
+    magic: &DatabaseMagic<'_>,
+    content: &[u8],
+    order: Order,
+) {
+    let (host, name) = (Host::Little, b"x.a");
+    let (mut of_lists, mut of_magic) = (Some(content), Some(content));
+    let by_lists = outcome_of(look_up_plain(alloc, database, name, &mut of_lists, host, order));
+    let by_magic = outcome_of(look_up_by_magic(alloc, magic, name, &mut of_magic, host, order));
+    alike(rt, "by the magic", by_magic, by_lists);
+}
+
+#[test]
+fn magic_alone(rt: HostRuntime) -> Result<(), Fail> {
+    let alloc = rt.alloc();
+    let texts = Texts {
+        globs2: b"50:t/abce:*.a\n50:t/late:*.a\n",
+        aliases: b"t/abc t/other\n",
+        subclasses: b"t/second t/late\n",
+        magic: HEADS,
+        ..EMPTY
+    };
+    let database = merged(alloc, &[texts])?;
+    let magic = DatabaseMagic::new(alloc, &database)?;
+    for &content in &HEADED {
+        is_alike_by_magic(&rt, alloc, &database, &magic, content, Order::ContentOnly);
+        is_alike_by_magic(&rt, alloc, &database, &magic, content, Order::GlobsFirst);
+        is_alike_by_magic(&rt, alloc, &database, &magic, content, Order::AllGlobs);
     }
     Ok(())
 }
