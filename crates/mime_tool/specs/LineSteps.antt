@@ -25,6 +25,7 @@ use Rattle.mime_tool.specs.declared.stop.Stop.TheVariants as stop
 abbrev pub lookup_in : Data → Lookup → PlainLookup
 lookup_in (data_of.Database database) lookup = lookup_over lookup.name_only lookup.output lookup.order (plain_database database.now)
 lookup_in (data_of.Indexed index) lookup = lookup_over lookup.name_only lookup.output lookup.order (plain_database index.now)
+lookup_in (data_of.Magic magic) lookup = lookup_over lookup.name_only lookup.output lookup.order (plain_database magic.now)
 lookup_in (data_of.Cache path bytes cost) lookup = lookup_by path.now lookup.name_only cost lookup.output lookup.order bytes.now
 lookup_in (data_of.Opened path cache cost) lookup = lookup_by path.now lookup.name_only cost lookup.output lookup.order cache.now
 
@@ -37,6 +38,7 @@ pub data Source : Type 0 where
 abbrev pub source_of : Data → Source
 source_of (data_of.Database database) = whole database.now
 source_of (data_of.Indexed index) = whole index.now
+source_of (data_of.Magic magic) = whole magic.now
 source_of (data_of.Cache path bytes cost) = cached path.now bytes.now cost
 source_of (data_of.Opened path cache cost) = cached path.now cache.now cost
 
@@ -44,6 +46,7 @@ source_of (data_of.Opened path cache cost) = cached path.now cache.now cost
 abbrev pub bytes_in : Data → List ℕ
 bytes_in (data_of.Database database) = []
 bytes_in (data_of.Indexed index) = []
+bytes_in (data_of.Magic magic) = []
 bytes_in (data_of.Cache path bytes cost) = bytes.now
 bytes_in (data_of.Opened path cache cost) = cache.now
 
@@ -51,13 +54,15 @@ bytes_in (data_of.Opened path cache cost) = cache.now
 abbrev pub tells_cost : Data → Bool
 tells_cost (data_of.Database database) = false
 tells_cost (data_of.Indexed index) = false
+tells_cost (data_of.Magic magic) = false
 tells_cost (data_of.Cache path bytes cost) = cost
 tells_cost (data_of.Opened path cache cost) = cost
 
--- What was opened is the cache in which FILEs are looked up, and the index is of the database.
+-- What was opened is the cache in which FILEs are looked up, and the index is of the database, and so is the magic.
 pub record IsOfSource (prepared : Prepared) : Type 0 where
   pub cache : IfSome prepared.cache (λ cache. cache ≡ bytes_in prepared.lookup.by)
   pub database : IfSome prepared.index (λ index. whole index ≡ source_of prepared.lookup.by)
+  pub magic : IfSome prepared.magic (λ magic. whole magic ≡ source_of prepared.lookup.by)
 
 -- Two lookups that are the same but for what was prepared.
 pub record LooksAlike (a b : Lookup) : Type 0 where

@@ -37,6 +37,8 @@ pub record AreOwed (lookup : Lookup) (payments : Payments) : Type 0 where
   pub magic : IsOwed Magic (bytes_in lookup.by) (tells_cost lookup.by) payments.magic
   -- What names need is never read back for contents alone.
   pub content_only : lookup.order ≡ ContentOnly → payments.names ≡ None
+  -- No index of names is made for them.
+  pub unnamed : lookup.order ≡ ContentOnly → payments.index ≡ None
   -- The magic list is never read back for names alone.
   pub name_only : lookup.name_only ≡ true → payments.magic ≡ None
 

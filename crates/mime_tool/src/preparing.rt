@@ -1,7 +1,8 @@
 //! What is prepared in a run that looks up many FILEs.
 //!
 //! Of a database there is an index, which is made once an answer has compared something, and its magic is prepared once one has asked a
-//! content for bytes: so neither for one FILE alone, nor for what is refused, and no magic for names alone.
+//! content for bytes: so neither for one FILE alone, nor for what is refused, no magic for names alone, and no index of names for contents
+//! alone.
 //!
 //! Of a cache what names need is read back, and the magic list, into an index of each. That is done once the answers of the run have
 //! visited as many records as reading back may visit, and twice as many for magic: for names all answers, and for magic those whose
@@ -17,7 +18,7 @@ mod payments;
 
 use crate::line::{Data, Lookup};
 use mime_base::{Counted, Database, Meter};
-use mime_lookup::{IndexedCache, IndexedDatabase};
+use mime_lookup::{DatabaseMagic, IndexedCache, IndexedDatabase, Order};
 pub(crate) use payments::Payments;
 use payments::{Due, Part};
 use std::alloc::Global;
@@ -28,6 +29,7 @@ pub(crate) struct Prepared<'i, 'a> {
     lookup: Lookup<'i, 'a>,
     cache: Option<IndexedCache<'a>>,
     index: Option<IndexedDatabase<'a>>,
+    magic: Option<DatabaseMagic<'a>>,
 }
 
 impl<'i, 'a> Prepared<'i, 'a> {
@@ -42,6 +44,7 @@ impl<'i, 'a> Prepared<'i, 'a> {
             lookup,
             cache: None,
             index: None,
+            magic: None,
         }
     }
 
@@ -56,7 +59,8 @@ impl<'i, 'a> Prepared<'i, 'a> {
         // What is prepared then is of it too.
         ensures prepared { IsOfSource self.new }
         // Nothing is prepared that isn't paid.
-        ensures unpaid { IsUnpaid payments.old → (self.new.cache ≡ self.old.cache) × (self.new.index ≡ self.old.index) }
+        ensures unpaid { IsUnpaid payments.old → (self.new.cache ≡ self.old.cache)
+            × (self.new.index ≡ self.old.index) × (self.new.magic ≡ self.old.magic) }
     {
         if let Some(due) = payments.take_due() {
             self.prepare(alloc, due);
@@ -77,10 +81,45 @@ impl<'i, 'a> Prepared<'i, 'a> {
                 self.cache = read_back(alloc, self.lookup.by, part, known, &mut Meter::new());
             }
             Due::Index => self.make_index(alloc),
-            Due::Lines => {
+            Due::Lines => self.prepare_lines(alloc),
+        }
+    }
+
+    // Prepares the magic of a database in which FILEs are looked up: for contents alone without an index of names.
+    fn prepare_lines(&mut self, alloc: Global)
+        requires { IsOfSource self.old }
+        ensures lookup { self.new.lookup ≡ self.old.lookup }
+        ensures prepared { IsOfSource self.new }
+    {
+        match self.lookup.order {
+            Order::ContentOnly => self.make_magic(alloc),
+            Order::GlobsFirst | Order::MagicFirst | Order::AllGlobs => {
                 self.make_index(alloc);
                 self.prepare_magic(alloc);
             }
+        }
+    }
+
+    // Prepares the magic of a database in which FILEs are looked up.
+    fn make_magic(&mut self, alloc: Global)
+        requires { IsOfSource self.old }
+        ensures lookup { self.new.lookup ≡ self.old.lookup }
+        ensures prepared { IsOfSource self.new }
+    {
+        if let Data::Database(database) = self.lookup.by {
+            self.magic_over(alloc, database);
+        }
+    }
+
+    // Prepares the magic of the database in which FILEs are looked up, if there is memory for it.
+    fn magic_over(&mut self, alloc: Global, database: &'a Database)
+        requires prepared { IsOfSource self.old }
+        requires database { whole database.now ≡ source_of self.old.lookup.by }
+        ensures lookup { self.new.lookup ≡ self.old.lookup }
+        ensures prepared { IsOfSource self.new }
+    {
+        if let Ok(magic) = DatabaseMagic::new(alloc, database) {
+            self.magic = Some(magic);
         }
     }
 
@@ -137,7 +176,12 @@ impl<'i, 'a> Prepared<'i, 'a> {
             output,
         } = self.lookup;
         Lookup {
-            by: data_with(by, self.cache.as_ref(), self.index.as_ref()),
+            by: data_with(
+                by,
+                self.cache.as_ref(),
+                self.index.as_ref(),
+                self.magic.as_ref(),
+            ),
             name_only,
             inode,
             order,
@@ -193,21 +237,24 @@ fn data_with<'i, 'a>(
     by: Data<'i, 'a>,
     cache: Option<&'i IndexedCache<'a>>,
     index: Option<&'i IndexedDatabase<'a>>,
+    magic: Option<&'i DatabaseMagic<'a>>,
 ) -> Data<'i, 'a>
     requires cache { IfSome cache (λ it. it.now ≡ bytes_in by) }
     requires index { IfSome index (λ it. whole it.now ≡ source_of by) }
+    requires magic { IfSome magic (λ it. whole it.now ≡ source_of by) }
     // It is looked up in as without.
     ensures { source_of result ≡ source_of by.entry }
 {
     match by {
-        Data::Database(_) => match index {
-            Some(index) => Data::Indexed(index),
-            None => by,
+        Data::Database(_) => match (index, magic) {
+            (Some(index), _) => Data::Indexed(index),
+            (None, Some(magic)) => Data::Magic(magic),
+            (None, None) => by,
         },
         Data::Cache { path, cost, .. } => match cache {
             Some(cache) => Data::Opened { path, cache, cost },
             None => by,
         },
-        Data::Indexed(_) | Data::Opened { .. } => by,
+        Data::Indexed(_) | Data::Magic(_) | Data::Opened { .. } => by,
     }
 }

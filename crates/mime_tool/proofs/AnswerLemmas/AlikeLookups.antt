@@ -20,6 +20,7 @@ lookup_from (cached path bytes cost) name_only output order = lookup_by path nam
 in_source : (by : Data) (lookup : Lookup) → lookup_in by lookup ≡ lookup_from (source_of by) lookup.name_only lookup.output lookup.order
 in_source (data_of.Database database) lookup = refl
 in_source (data_of.Indexed index) lookup = refl
+in_source (data_of.Magic magic) lookup = refl
 in_source (data_of.Cache path bytes cost) lookup = refl
 in_source (data_of.Opened path cache cost) lookup = refl
 

@@ -45,6 +45,7 @@ comes_undone lookup stored file a b (stop.Refused m) p = (silent, p.1, writes_sa
 output_in : (by : Data) (lookup : Lookup) → (lookup_in by lookup).output ≡ lookup.output
 output_in (data_of.Database database) lookup = refl
 output_in (data_of.Indexed index) lookup = refl
+output_in (data_of.Magic magic) lookup = refl
 output_in (data_of.Cache path bytes cost) lookup = refl
 output_in (data_of.Opened path cache cost) lookup = refl
 

@@ -14,7 +14,8 @@ use crate::cache::faulty;
 use crate::stop::Stop;
 use mime_base::{Counted, Database, Host, Meter};
 use mime_lookup::{
-    Cause, Content, IndexedCache, IndexedDatabase, Order, look_up, look_up_indexed, look_up_plain,
+    Cause, Content, DatabaseMagic, IndexedCache, IndexedDatabase, Order, look_up, look_up_by_magic,
+    look_up_indexed, look_up_plain,
 };
 use mime_request::{Options, Output};
 use std::alloc::Global;
@@ -25,6 +26,8 @@ pub(crate) enum Data<'i, 'a> {
     Database(&'a Database),
     /// A database of which the index was made.
     Indexed(&'i IndexedDatabase<'a>),
+    /// A database of which the magic alone was prepared.
+    Magic(&'i DatabaseMagic<'a>),
     Cache {
         path: &'a str,
         bytes: &'a [u8],
@@ -78,6 +81,8 @@ pub(crate) fn asked_order(options: Options) -> Order
 }
 
 /// What a file comes to by its name and its content, which is read as far as it is needed.
+// Always inlined, as its caller is: the outcome is not moved.
+#[inline(always)]
 pub(crate) fn find<'i, R: Content + Drop>(
     alloc: Global,
     lookup: Lookup<'i, '_>,
@@ -98,6 +103,7 @@ pub(crate) fn find<'i, R: Content + Drop>(
     match by {
         Data::Database(database) => find_in_database(alloc, database, order, file, content),
         Data::Indexed(index) => find_in_index(alloc, index, order, file, content),
+        Data::Magic(magic) => find_by_magic(alloc, magic, order, file, content),
         Data::Cache { path, bytes, cost } => {
             find_in_cache(alloc, path, bytes, cost, order, file, content)
         }
@@ -151,6 +157,28 @@ fn find_in_index<'a, R: Content + Drop>(
     }
 }
 
+fn find_by_magic<'a, R: Content + Drop>(
+    alloc: Global,
+    magic: &DatabaseMagic<'a>,
+    order: Order,
+    file: &[u8],
+    content: &mut Option<R>,
+) -> Result<Outcome<'a>, Stop>
+    ensures { (stored : Stored) (name_only : Bool) (output : Output) → IsContent R.remaining R.health name_only stored content.old
+        → LooksUpFile (lookup_over name_only output order (plain_database magic.now)) stored file.now result }
+{
+    let name = name_for(order, file);
+    match look_up_by_magic(alloc, magic, name, content, Host::Little, order) {
+        Ok(answer) => Ok(Outcome::Typed(answer.kind, cost_of(false, answer.meter, answer.read))),
+        Err(stopped) => match stopped.cause {
+            Cause::NameTooLong => Ok(Outcome::NameTooLong),
+            Cause::Read => Ok(Outcome::CannotRead),
+            Cause::OutOfMemory => Err(Stop::OutOfMemory),
+            Cause::Cache(_) => unreachable!(),
+        },
+    }
+}
+
 fn find_in_cache<'a, R: Content + Drop>(
     alloc: Global,
     path: &str,
@@ -182,7 +210,11 @@ pub(super) fn free(lookup: Lookup<'_, '_>) -> Cost
     ensures { tail_of_cost result ≡ (plain_lookup lookup.entry).free }
 {
     match lookup.by {
-        Data::Database(_) | Data::Indexed(_) => cost_of(false, Meter { nodes: 0, bytes: 0 }, 0),
+        Data::Database(_) | Data::Indexed(_) | Data::Magic(_) => cost_of(
+            false,
+            Meter { nodes: 0, bytes: 0 },
+            0,
+        ),
         Data::Cache { cost, .. } => cost_of(cost, Meter { nodes: 0, bytes: 0 }, 0),
         Data::Opened { cost, .. } => cost_of(cost, Meter { nodes: 0, bytes: 0 }, 0),
     }

@@ -1,6 +1,7 @@
 //! What the answers of a run pay for what is prepared.
 
-ghost use Rattle.std.specs.Prelude.{◌≡◌, ◌*◌, ◌≤◌, length};
+ghost use Rattle.std.specs.Prelude.{◌≡◌, ◌*◌, ◌≤◌, None, IfSome, length};
+ghost use Rattle.mime_lookup.specs.declared.order.Order.TheVariants.{ContentOnly};
 ghost use Rattle.mime_tool.specs.Preparing.{AreOwed, TakesDue, is_due, owed_for};
 ghost use Rattle.mime_tool.specs.LineSteps.{bytes_in, tells_cost};
 
@@ -24,7 +25,7 @@ pub(crate) enum Part {
 pub(crate) enum Due {
     /// The index of a database.
     Index,
-    /// The magic of that index.
+    /// The magic of a database.
     Lines,
     /// A part of a cache.
     Part(Part),
@@ -50,13 +51,13 @@ impl Payments {
         match lookup.by {
             Data::Cache { bytes, cost, .. } => Payments::for_parts(lookup, bytes, cost),
             Data::Database(_) => Payments {
-                index: Some(Prepaid::new(1)),
+                index: index_of(lookup.order),
                 lines: Some(Prepaid::new(1)),
                 names: None,
                 magic: None,
                 listed: 0,
             },
-            Data::Indexed(_) | Data::Opened { .. } => Payments {
+            Data::Indexed(_) | Data::Magic(_) | Data::Opened { .. } => Payments {
                 index: None,
                 lines: None,
                 names: None,
@@ -144,6 +145,17 @@ impl Payments {
             return Some(Due::Part(Part::Magic));
         }
         None
+    }
+}
+
+/// What is paid for the index of a database, which contents alone don't need.
+fn index_of(order: Order) -> Option<Prepaid>
+    ensures owed { IfSome result (λ it. it ≡ record { paid = 0; cost = 1 }) }
+    ensures unnamed { order ≡ ContentOnly → result ≡ None }
+{
+    match order {
+        Order::ContentOnly => None,
+        Order::GlobsFirst | Order::MagicFirst | Order::AllGlobs => Some(Prepaid::new(1)),
     }
 }
 

@@ -16,6 +16,12 @@ returns-in-Indexed g c = λ stored has.
     rw c.in-Indexed.is (same_lookup l.inode (lookup_over l.name_only l.output l.order (plain_database c.in-Indexed.index.now))
     c.args.file.now stored _ (c.find_in_index.ensures stored l.name_only l.output has))
 
+pub returns-in-Magic : goal.returns-in-Magic
+returns-in-Magic g c = λ stored has.
+    let l = c.args.lookup in
+    rw c.in-Magic.is (same_lookup l.inode (lookup_over l.name_only l.output l.order (plain_database c.in-Magic.magic.now))
+    c.args.file.now stored _ (c.find_by_magic.ensures stored l.name_only l.output has))
+
 pub returns-in-Cache : goal.returns-in-Cache
 returns-in-Cache g c = λ stored has.
     let l = c.args.lookup in
