@@ -16372,6 +16372,343 @@
 
 	.text
 	.p2align	4
+	.type	"core::slice::sort::slice+T::sort_by::<#67790cc31fa64999>",@function
+"core::slice::sort::slice+T::sort_by::<#67790cc31fa64999>":
+	cmpq	$20, %rsi
+	ja	7f
+	cmpq	$2, %rsi
+	jb	10f
+	movl	$1, %eax
+	jmp	4f
+1:
+	xorl	%edx, %edx
+2:
+	movq	%rcx, (%rdi,%rdx)
+3:
+	incq	%rax
+	cmpq	%rsi, %rax
+	je	10f
+4:
+	movl	-8(%rdi,%rax,8), %ecx
+	cmpl	(%rdi,%rax,8), %ecx
+	jae	3b
+	movq	%rax, %rdx
+	movq	-8(%rdi,%rax,8), %r8
+	movq	(%rdi,%rax,8), %rcx
+	movq	%r8, (%rdi,%rax,8)
+	decq	%rdx
+	je	1b
+	.p2align	4
+5:
+	cmpl	%ecx, -8(%rdi,%rdx,8)
+	jae	6f
+	movq	-8(%rdi,%rdx,8), %r8
+	movq	%r8, (%rdi,%rdx,8)
+	decq	%rdx
+	jne	5b
+	xorl	%edx, %edx
+6:
+	shlq	$3, %rdx
+	jmp	2b
+7:
+	pushq	%rbp
+	pushq	%r15
+	pushq	%r14
+	pushq	%r13
+	pushq	%r12
+	pushq	%rbx
+	subq	$104, %rsp
+	movl	(%rdi), %ebp
+	movl	8(%rdi), %r14d
+	movl	$2, %r12d
+	cmpl	%r14d, %ebp
+	jae	9f
+	.p2align	4
+8:
+	movl	-8(%rdi,%r12,8), %eax
+	cmpl	(%rdi,%r12,8), %eax
+	jae	11f
+	incq	%r12
+	cmpq	%r12, %rsi
+	jne	8b
+	jmp	12f
+	.p2align	4
+9:
+	movl	-8(%rdi,%r12,8), %eax
+	cmpl	(%rdi,%r12,8), %eax
+	jb	11f
+	incq	%r12
+	cmpq	%r12, %rsi
+	jne	9b
+	jmp	13f
+10:
+	xorl	%eax, %eax
+	retq
+11:
+	cmpq	%rsi, %r12
+	jne	15f
+	cmpl	%r14d, %ebp
+	jae	13f
+12:
+	movq	%rsi, %rcx
+	shrq	%rcx
+	subq	%rcx, %rsi
+	leaq	(%rdi,%rsi,8), %rdx
+	xorl	%esi, %esi
+	callq	"core::slice::edits::mirror::<14'(,)::<i32,i32>>"
+13:
+	xorl	%eax, %eax
+14:
+	addq	$104, %rsp
+	popq	%rbx
+	popq	%r12
+	popq	%r13
+	popq	%r14
+	popq	%r15
+	popq	%rbp
+	retq
+15:
+	leaq	(,%rsi,8), %rcx
+	movb	$1, %al
+	testq	%rcx, %rcx
+	js	14b
+	movq	%rsi, %r15
+	movq	%rdi, 40(%rsp)
+	movl	$4, %esi
+	movq	%rcx, %rdi
+	callq	rattle_alloc@PLT
+	movq	%rax, %rcx
+	movb	$1, %al
+	xorl	%ebx, %ebx
+	testb	$1, %cl
+	cmovneq	%rdx, %rbx
+	je	14b
+	movq	%rdx, 48(%rsp)
+	movq	%r15, %rsi
+	movq	%r15, 56(%rsp)
+	cmpq	$65, %r15
+	setae	%cl
+	movq	%r15, %rax
+	shrq	%rax
+	cmpq	%rax, %r12
+	setae	%dl
+	orb	%cl, %dl
+	jne	16f
+	bsrq	%rsi, %rcx
+	xorl	$63, %ecx
+	addl	%ecx, %ecx
+	xorl	$126, %ecx
+	leaq	48(%rsp), %r8
+	movq	40(%rsp), %rdi
+	movq	%rsi, %rdx
+	jmp	34f
+16:
+	xorps	%xmm0, %xmm0
+	movaps	%xmm0, 80(%rsp)
+	movaps	%xmm0, 64(%rsp)
+	movq	$0, 96(%rsp)
+	movl	$64, %r13d
+	cmpq	$4097, %rsi
+	jb	18f
+	movabsq	$4294967296, %rdx
+	xorl	%ecx, %ecx
+	.p2align	4
+17:
+	movq	%rcx, %rdi
+	addq	%rdx, %rcx
+	shrq	%rcx
+	movq	%rcx, %r8
+	imulq	%rcx, %r8
+	cmpq	%rsi, %r8
+	cmovaq	%rcx, %rdx
+	cmovaq	%rdi, %rcx
+	leaq	1(%rcx), %rdi
+	cmpq	%rdx, %rdi
+	jb	17b
+	cmpq	$65, %rcx
+	movl	$64, %r13d
+	cmovaeq	%rcx, %r13
+18:
+	cmpq	%r13, %rax
+	cmovbq	%rax, %r13
+	movabsq	$4611686018427387904, %rax
+	xorl	%edx, %edx
+	divq	%rsi
+	incq	%rax
+	cmpq	%r13, %r12
+	setae	%cl
+	movq	%r13, %r8
+	cmovaq	%r12, %r8
+	cmpl	%r14d, %ebp
+	jae	33f
+	cmpq	%r13, %r12
+	jb	33f
+	cmpq	$15, %r12
+	jbe	19f
+	movq	%r12, %rcx
+	shrq	%rcx
+	movq	%r12, %rdx
+	subq	%rcx, %rdx
+	movq	40(%rsp), %rdi
+	leaq	(%rdi,%rdx,8), %rdx
+	xorl	%esi, %esi
+	movq	%rax, %r14
+	callq	"core::slice::edits::mirror::<14'(,)::<i32,i32>>"
+	movq	%r14, %rax
+	movb	$1, %cl
+	jmp	32f
+19:
+	leaq	-2(%r12), %rdi
+	movq	%rdi, %rsi
+	shrq	%rsi
+	cmpq	$1, %r12
+	movq	40(%rsp), %rdx
+	je	20f
+	movq	(%rdx), %rcx
+	movq	-8(%rdx,%r12,8), %r8
+	movq	%r8, (%rdx)
+	movq	%rcx, -8(%rdx,%r12,8)
+20:
+	movb	$1, %cl
+	testq	%rsi, %rsi
+	je	32f
+	cmpq	$1, %rdi
+	jbe	21f
+	movq	8(%rdx), %rdi
+	movq	-16(%rdx,%r12,8), %r8
+	movq	%r8, 8(%rdx)
+	movq	%rdi, -16(%rdx,%r12,8)
+	jmp	22f
+21:
+	testq	%rdi, %rdi
+	jne	22f
+	movq	(%rdx), %rdi
+	movq	8(%rdx), %r8
+	movq	%r8, (%rdx)
+	movq	%rdi, 8(%rdx)
+22:
+	cmpq	$1, %rsi
+	je	32f
+	leaq	-3(%r12), %rdi
+	cmpq	$2, %rdi
+	jbe	23f
+	movq	16(%rdx), %rdi
+	movq	-24(%rdx,%r12,8), %r8
+	movq	%r8, 16(%rdx)
+	movq	%rdi, -24(%rdx,%r12,8)
+	jmp	24f
+23:
+	je	24f
+	movq	-24(%rdx,%r12,8), %rdi
+	movq	16(%rdx), %r8
+	movq	%r8, -24(%rdx,%r12,8)
+	movq	%rdi, 16(%rdx)
+24:
+	cmpq	$2, %rsi
+	je	32f
+	leaq	-4(%r12), %rdi
+	cmpq	$3, %rdi
+	jbe	25f
+	movq	24(%rdx), %rdi
+	movq	-32(%rdx,%r12,8), %r8
+	movq	%r8, 24(%rdx)
+	movq	%rdi, -32(%rdx,%r12,8)
+	jmp	26f
+25:
+	je	26f
+	movq	-32(%rdx,%r12,8), %rdi
+	movq	24(%rdx), %r8
+	movq	%r8, -32(%rdx,%r12,8)
+	movq	%rdi, 24(%rdx)
+26:
+	cmpq	$3, %rsi
+	je	32f
+	leaq	-5(%r12), %rdi
+	cmpq	$4, %rdi
+	jbe	27f
+	movq	32(%rdx), %rdi
+	movq	-40(%rdx,%r12,8), %r8
+	movq	%r8, 32(%rdx)
+	movq	%rdi, -40(%rdx,%r12,8)
+	jmp	28f
+27:
+	je	28f
+	movq	-40(%rdx,%r12,8), %rdi
+	movq	32(%rdx), %r8
+	movq	%r8, -40(%rdx,%r12,8)
+	movq	%rdi, 32(%rdx)
+28:
+	cmpq	$4, %rsi
+	je	32f
+	leaq	-6(%r12), %rdi
+	cmpq	$5, %rdi
+	jbe	29f
+	movq	40(%rdx), %rdi
+	movq	-48(%rdx,%r12,8), %r8
+	movq	%r8, 40(%rdx)
+	movq	%rdi, -48(%rdx,%r12,8)
+	jmp	30f
+29:
+	je	30f
+	movq	-48(%rdx,%r12,8), %rdi
+	movq	40(%rdx), %r8
+	movq	%r8, -48(%rdx,%r12,8)
+	movq	%rdi, 40(%rdx)
+30:
+	cmpq	$5, %rsi
+	je	32f
+	leaq	-7(%r12), %rsi
+	cmpq	$6, %rsi
+	jbe	31f
+	movq	48(%rdx), %rsi
+	movq	-56(%rdx,%r12,8), %rdi
+	movq	%rdi, 48(%rdx)
+	movq	%rsi, -56(%rdx,%r12,8)
+	jmp	32f
+31:
+	je	32f
+	movq	40(%rsp), %rdx
+	movq	-56(%rdx,%r12,8), %rsi
+	movq	48(%rdx), %rdi
+	movq	%rdi, -56(%rdx,%r12,8)
+	movq	%rsi, 48(%rdx)
+32:
+	movq	%r12, %r8
+33:
+	leaq	48(%rsp), %rdx
+	movq	%rdx, 24(%rsp)
+	movq	%rax, 16(%rsp)
+	movq	%r13, 8(%rsp)
+	movl	$0, (%rsp)
+	movzbl	%cl, %r9d
+	leaq	64(%rsp), %rdi
+	movq	40(%rsp), %rsi
+	movq	%r15, %rdx
+	xorl	%ecx, %ecx
+	callq	"core::slice::sort::runs::climb::<#12eb916b83b0f891>"
+	testb	$1, 72(%rsp)
+	jne	35f
+	movq	64(%rsp), %rdx
+	movl	$127, %eax
+	bsrq	%rdx, %rax
+	xorl	$63, %eax
+	addl	%eax, %eax
+	movl	$126, %ecx
+	subl	%eax, %ecx
+	leaq	48(%rsp), %r8
+	movq	40(%rsp), %rdi
+	movq	%rdx, %rsi
+34:
+	callq	"core::slice::sort::stable::quicksort::<#12eb916b83b0f891>"
+35:
+	movq	%rbx, %rdi
+	callq	rattle_dealloc@PLT
+	jmp	13b
+36:
+	.size	"core::slice::sort::slice+T::sort_by::<#67790cc31fa64999>", 36b-"core::slice::sort::slice+T::sort_by::<#67790cc31fa64999>"
+
+	.text
+	.p2align	4
 	.type	"core::slice::sort::slice+T::sort_unstable::<#17f159365526a5ba>",@function
 "core::slice::sort::slice+T::sort_unstable::<#17f159365526a5ba>":
 	movq	%rsi, %rdx
