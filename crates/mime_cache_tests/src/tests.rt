@@ -1,10 +1,6 @@
 mod base;
 mod checked;
 mod load;
-mod lookup;
-mod sample;
 mod store;
 mod text;
-mod texts;
-mod types;
 mod view;

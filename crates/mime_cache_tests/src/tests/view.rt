@@ -6,8 +6,8 @@ mod rules;
 mod sniffing;
 
 use crate::tests::checked::alike;
-use crate::tests::sample::{SAMPLE, damaged};
 use mime_base::{Counted, Meter};
+use mime_samples::caches::{SAMPLE, damaged};
 use mime_view::{Budget, Cache, CacheFault};
 use std::process::Abort;
 use std::test::Fail;

@@ -9,11 +9,10 @@ mod faults;
 mod files;
 mod output;
 mod prepared;
-mod sample;
 
 use crate::Entry;
 use crate::tests::ran::{Said, says_over};
-use sample::SAMPLE;
+use mime_samples::caches::SAMPLE;
 use std::alloc::Global;
 use std::process::Abort;
 use std::test::Fail;

@@ -3,8 +3,8 @@
 ghost use Rattle.std.specs.Prelude.{◌≤◌};
 
 use crate::tests::checked::alike;
-use crate::tests::sample::{SAMPLE, SELF_CHILD};
 use mime_base::{ByteFault, Counted, Meter};
+use mime_samples::caches::{SAMPLE, SELF_CHILD};
 use std::process::Abort;
 
 /// A record of [`SAMPLE`] and its numbers.

@@ -1,8 +1,8 @@
 //! Values of a cache at the offsets of a range, and what is counted on the way.
 
 use crate::tests::checked::alike;
-use crate::tests::sample::SAMPLE;
 use mime_base::{ByteFault, Counted, Host, Meter, NotedContent, StatedValue};
+use mime_samples::caches::SAMPLE;
 
 /// A range of a content against the value 1F 8B of [`SAMPLE`], and whether the first bytes alone rule it out.
 struct Range {

@@ -1,8 +1,8 @@
 //! The texts of caches, up to the longest, and names that are compared.
 
 use crate::tests::checked::alike;
-use crate::tests::sample::SAMPLE;
 use mime_base::{ByteFault, Counted, Meter, same_name};
+use mime_samples::caches::SAMPLE;
 use std::cmp::Ordering;
 use std::process::Abort;
 

@@ -1,8 +1,8 @@
 //! Windows of a content against values of a cache.
 
 use crate::tests::checked::alike;
-use crate::tests::sample::{SAMPLE, SELF_CHILD};
 use mime_base::{ByteFault, Counted, Host, Meter};
+use mime_samples::caches::{SAMPLE, SELF_CHILD};
 use std::process::Abort;
 
 /// A value of four bytes at 4 and a mask at 8.

@@ -2,10 +2,10 @@
 
 use super::{counts, name_counts};
 use crate::tests::checked::alike;
-use crate::tests::sample::{SAMPLE, SAMPLE_TEXTS, write_at};
-use crate::tests::texts::{EMPTY, Texts, merged};
 use mime_base::{Counted, LARGEST_CACHE, Meter};
 use mime_load::{Part, read_names};
+use mime_samples::caches::{SAMPLE, write_at};
+use mime_samples::texts::{EMPTY, SAMPLE_TEXTS, Texts, merged};
 use mime_store::write_cache;
 use std::alloc::Global;
 use std::test::Fail;

@@ -4,8 +4,7 @@
 //! record points to before it.
 
 use crate::tests::checked::alike;
-use crate::tests::sample::SAMPLE_TEXTS;
-use crate::tests::texts::merged;
+use mime_samples::texts::{SAMPLE_TEXTS, merged};
 use mime_store::write_cache;
 use std::test::Fail;
 

@@ -2,8 +2,8 @@
 //! `room`.
 
 use crate::tests::checked::alike;
-use crate::tests::texts::{EMPTY, Texts, merged};
 use mime_base::{Counted, Database, Meter};
+use mime_samples::texts::{EMPTY, Texts, merged};
 use mime_store::{StoreFault, fits_in_cache, write_cache};
 use mime_view::{Budget, Cache};
 use std::alloc::Global;

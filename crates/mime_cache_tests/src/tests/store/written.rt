@@ -1,9 +1,8 @@
 //! Databases at the limits that they fit in, and what is read of the written caches.
 
 use crate::tests::checked::alike;
-use crate::tests::sample::SAMPLE_TEXTS;
-use crate::tests::texts::{EMPTY, Texts, merged};
 use mime_base::{Counted, Meter};
+use mime_samples::texts::{EMPTY, SAMPLE_TEXTS, Texts, merged};
 use mime_store::{StoreFault, write_cache};
 use mime_view::{Budget, Cache, CacheFault};
 use std::alloc::Global;

@@ -1,8 +1,8 @@
 //! Which rules of a database are visible.
 
 use crate::tests::checked::alike;
-use crate::tests::texts::{EMPTY, Texts, merged, of_rules};
 use mime_base::Database;
+use mime_samples::texts::{EMPTY, Texts, merged, of_rules};
 use mime_text::visible;
 use std::alloc::Global;
 use std::test::Fail;

@@ -1,8 +1,8 @@
 //! What is merged of several directories.
 
 use crate::tests::checked::alike;
-use crate::tests::texts::{EMPTY, Texts, merged};
 use mime_base::{Database, GlobRule, Icon, Pair, Section};
+use mime_samples::texts::{EMPTY, Texts, merged};
 use std::process::Abort;
 use std::test::Fail;
 

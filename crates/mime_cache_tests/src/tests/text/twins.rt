@@ -2,7 +2,7 @@
 
 use super::hidden::are_at;
 use crate::tests::checked::alike;
-use crate::tests::texts::{EMPTY, Texts, merged, of_rules};
+use mime_samples::texts::{EMPTY, Texts, merged, of_rules};
 use mime_text::{visible, without_twins};
 use std::alloc::Global;
 use std::test::Fail;

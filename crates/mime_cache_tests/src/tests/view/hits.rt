@@ -4,9 +4,9 @@
 //! nodes `z`, `g` and `.` at 96, 108 and 120 and the leaf of `*.gz` at 132. Its glob list is empty.
 
 use crate::tests::checked::alike;
-use crate::tests::sample::SAMPLE;
-use crate::tests::texts::{EMPTY, Texts, merged};
 use mime_base::{Counted, Meter};
+use mime_samples::caches::SAMPLE;
+use mime_samples::texts::{EMPTY, Texts, merged};
 use mime_store::write_cache;
 use mime_view::{Budget, Cache, CacheFault, NameHits, RuleHits, Which};
 use std::alloc::Global;

@@ -5,8 +5,8 @@
 
 use super::FAR;
 use crate::tests::checked::alike;
-use crate::tests::sample::{SAMPLE, with};
 use mime_base::{Counted, Meter};
+use mime_samples::caches::{SAMPLE, with};
 use mime_view::{Budget, Cache, CacheFault, Marks};
 use std::alloc::Global;
 

@@ -4,8 +4,8 @@
 //! 120 and a leaf at 132, and its glob list at 144.
 
 use crate::tests::checked::alike;
-use crate::tests::sample::{SAMPLE, damaged, with};
 use mime_base::{Counted, Meter};
+use mime_samples::caches::{SAMPLE, damaged, with};
 use mime_view::{Budget, Cache, CacheFault, Listed};
 use std::alloc::Global;
 

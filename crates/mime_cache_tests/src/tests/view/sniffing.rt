@@ -2,8 +2,8 @@
 
 use super::FAR;
 use crate::tests::checked::alike;
-use crate::tests::sample::{SAMPLE, SELF_CHILD, changed, damaged};
 use mime_base::{Counted, Host, Meter};
+use mime_samples::caches::{SAMPLE, SELF_CHILD, changed, damaged};
 use mime_view::{Budget, Cache, CacheFault};
 
 /// A content, and the type and the priority that the sample gives it.

@@ -1,9 +1,9 @@
 //! What `check` prints of caches, and which part it says is not read back.
 
-use super::sample::SAMPLE;
 use super::{Cache, ROW, Row, WHOLE, are_answered, is_answered_over};
 use crate::tests::ran::{Said, alike, ran, says, says_over};
 use crate::{Drawer, Entry, Shelf};
+use mime_samples::caches::SAMPLE;
 use std::alloc::Global;
 use std::process::Abort;
 use std::test::Fail;

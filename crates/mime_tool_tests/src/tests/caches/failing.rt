@@ -1,9 +1,9 @@
 //! Files and outputs that fail under the commands over a cache.
 
 use super::entries_beside;
-use super::sample::SAMPLE;
 use crate::tests::ran::{Said, Taken, is_taken_over, says, sound};
 use crate::{FailingShelf, FailingSink, Shelf};
+use mime_samples::caches::SAMPLE;
 use mime_tool::{FileFault, SinkFault};
 use std::alloc::Global;
 use std::process::Abort;

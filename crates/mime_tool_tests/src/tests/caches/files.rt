@@ -1,9 +1,9 @@
 //! Files that have no line, and lookups that stop at a cache.
 
-use super::sample::SAMPLE;
 use super::{Cache, ROW, Row, WHOLE, are_answered};
 use crate::Entry;
 use crate::tests::ran::{Said, says_over};
+use mime_samples::caches::SAMPLE;
 use std::test::Fail;
 
 static FILES: [Row; 3] = [

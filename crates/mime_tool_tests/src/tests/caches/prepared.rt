@@ -1,8 +1,8 @@
 //! Runs over so many FILEs that parts of the cache are read back meanwhile: each line is the one of a run over its FILE alone.
 
-use super::sample::SAMPLE;
 use crate::tests::ran::{alike, ran};
 use crate::{Entry, Shelf};
+use mime_samples::caches::SAMPLE;
 use mime_store::write_cache;
 use mime_text::{DirTexts, merge, read_dirs};
 use std::alloc::Global;

@@ -1,0 +1,3 @@
+mod checked;
+mod lookup;
+mod types;

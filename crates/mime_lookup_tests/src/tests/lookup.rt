@@ -1,0 +1,209 @@
+//! Types of names and contents, by the lists of a database, by the bytes of its cache, and from the texts of directories in
+//! one run. A [`Row`] is a lookup over such texts; where it has a content, that comes also in pieces, with interruptions and failures.
+
+mod all_globs;
+mod by_name;
+mod globs;
+mod health;
+mod hits;
+mod indexed;
+mod limits;
+mod magic;
+mod magic_index;
+mod near_front;
+mod pieces;
+mod reads;
+mod sample;
+mod shortest;
+mod sniffed;
+mod steps;
+
+use crate::tests::checked::alike;
+use crate::tests::lookup::pieces::{is_answered_in_pieces, is_interrupted, is_refused_by_failures};
+use mime_base::{Counted, Database, Host};
+use mime_lookup::{
+    Answer, Cause, Content, IndexedDatabase, Order, Stopped, look_up, look_up_indexed,
+    look_up_plain,
+};
+use mime_samples::texts::{Texts, merged};
+use mime_store::write_cache;
+use mime_tool::answer;
+use std::alloc::Global;
+use std::process::Abort;
+
+/// The type and how much was read, or why there is none and how much was read.
+pub type Outcome<'a> = Result<(&'a [u8], u64), (Cause, u64)>;
+
+pub fn outcome_of<'a>(found: Result<Answer<'a>, Stopped>) -> Outcome<'a> {
+    match found {
+        Ok(answer) => Ok((answer.kind, answer.read)),
+        Err(stopped) => Err((stopped.cause, stopped.read)),
+    }
+}
+
+/// A name that is looked up, and its outcome.
+#[derive(Clone, Copy)]
+struct Asked<'a> {
+    name: &'static str,
+    file: &'a [u8],
+    host: Host,
+    order: Order,
+    outcome: Outcome<'static>,
+}
+
+/// The lists of a database and the bytes of its cache have the same outcome, each with one of two equal contents.
+fn are_answered_alike<R: Content + Drop>(
+    rt: &impl Abort,
+    alloc: Global,
+    database: &Database,
+    asked: &Asked<'_>,
+    contents: (Option<R>, Option<R>),
+) {
+    let Asked {
+        name,
+        file,
+        host,
+        order,
+        outcome,
+    } = *asked;
+    let (mut of_lists, mut of_cache) = contents;
+    let found = look_up_lists(alloc, database, file, &mut of_lists, host, order);
+    is_outcome(rt, name, "by the lists", found, outcome);
+    let cache = write_cache(alloc, database, usize::MAX).expect(rt, "its cache");
+    let found = look_up_cache(alloc, &cache, file, &mut of_cache, host, order);
+    is_outcome(rt, name, "by the cache", found, outcome);
+}
+
+/// The outcome of a lookup by the lists of a database, of which nothing is known.
+fn look_up_lists<'a, R: Content>(
+    alloc: Global,
+    database: &'a Database,
+    file: &[u8],
+    content: &mut Option<R>,
+    host: Host,
+    order: Order,
+) -> Outcome<'a> {
+    outcome_of(look_up_plain(alloc, database, file, content, host, order))
+}
+
+/// The outcome of a lookup over the bytes of a cache, of which nothing is known.
+fn look_up_cache<'a, R: Content>(
+    alloc: Global,
+    cache: &'a [u8],
+    file: &[u8],
+    content: &mut Option<R>,
+    host: Host,
+    order: Order,
+) -> Outcome<'a> {
+    outcome_of(look_up(alloc, Counted::new(cache), file, content, host, order))
+}
+
+/// What was found this way is what is wanted.
+fn is_outcome(rt: &impl Abort, name: &str, way: &str, found: Outcome<'_>, wanted: Outcome<'_>) {
+    alike(rt, name, (way, found), (way, wanted));
+}
+
+/// A name in these directories, a content, and the type and how much was read of it.
+#[derive(Drop)]
+struct Row {
+    name: &'static str,
+    dirs: &'static [Texts<'static>],
+    file: &'static [u8],
+    content: Option<&'static [u8]>,
+    host: Host,
+    order: Order,
+    kind: &'static [u8],
+    read: u64,
+}
+
+/// Each row is answered by its type.
+fn are_answered(rt: &impl Abort, alloc: Global, rows: &[Row]) {
+    for row in rows {
+        is_answered(rt, alloc, row);
+        is_answered_from_texts(rt, alloc, row);
+    }
+}
+
+/// A row is answered by its type, by the lists and by the cache.
+fn is_answered(rt: &impl Abort, alloc: Global, row: &Row) {
+    let database = merged(alloc, row.dirs).expect(rt, "a database");
+    let asked = Asked {
+        name: row.name,
+        file: row.file,
+        host: row.host,
+        order: row.order,
+        outcome: Ok((row.kind, row.read)),
+    };
+    are_answered_alike(rt, alloc, &database, &asked, (row.content, row.content));
+    is_answered_by_index(rt, alloc, &database, &asked, row.content);
+    match row.content {
+        Some(content) => is_answered_by_reads(rt, alloc, &database, &asked, content),
+        None => {}
+    }
+}
+
+/// The index of a database has the outcome too.
+fn is_answered_by_index(
+    rt: &impl Abort,
+    alloc: Global,
+    database: &Database,
+    asked: &Asked<'_>,
+    content: Option<&[u8]>,
+) {
+    let Asked {
+        name,
+        file,
+        host,
+        order,
+        outcome,
+    } = *asked;
+    let index = index_of(rt, alloc, database);
+    let mut content = content;
+    let found = outcome_of(look_up_indexed(alloc, &index, file, &mut content, host, order));
+    is_outcome(rt, name, "by the index", found, outcome);
+}
+
+/// The index of a database. It is boxed, so that to let it go is one call, whose proof is short.
+pub fn unprepared_index_of<'a>(
+    rt: &impl Abort,
+    alloc: Global,
+    database: &'a Database,
+) -> Box<IndexedDatabase<'a>> {
+    let index = IndexedDatabase::new(alloc, database).expect(rt, "an index");
+    Box::new(alloc, index).expect(rt, "room")
+}
+
+/// The index of a database, with its magic prepared.
+pub fn index_of<'a>(
+    rt: &impl Abort,
+    alloc: Global,
+    database: &'a Database,
+) -> Box<IndexedDatabase<'a>> {
+    let mut index = unprepared_index_of(rt, alloc, database);
+    index.prepare_magic(alloc).expect(rt, "its magic");
+    index
+}
+
+/// The content comes in pieces, with interruptions and failures.
+fn is_answered_by_reads(
+    rt: &impl Abort,
+    alloc: Global,
+    database: &Database,
+    asked: &Asked<'_>,
+    content: &[u8],
+) {
+    is_answered_in_pieces(rt, alloc, database, asked, content);
+    is_interrupted(rt, alloc, database, asked, content);
+    is_refused_by_failures(rt, alloc, database, asked, content)
+}
+
+/// A row is answered by its type from the texts of its directories in one run.
+fn is_answered_from_texts(rt: &impl Abort, alloc: Global, row: &Row) {
+    let (file, mut content) = (row.file, row.content);
+    let found = answer(alloc, row.dirs, file, &mut content, row.host, row.order).expect(
+        rt,
+        "an answer",
+    );
+    let given = ("from texts", found.kind.as_slice(), found.read);
+    alike(rt, row.name, given, ("from texts", row.kind, row.read));
+}

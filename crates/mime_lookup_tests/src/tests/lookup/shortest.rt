@@ -1,0 +1,130 @@
+//! Contents that are shorter than what any line of magic needs, as long, and longer, by the index and by the lists.
+
+use super::{index_of, outcome_of};
+use crate::tests::checked::alike;
+use mime_base::{Counted, Host, LARGEST_CACHE, Meter};
+use mime_load::read_back;
+use mime_lookup::{IndexedDatabase, MagicIndex, Order, look_up_indexed, look_up_plain};
+use mime_samples::texts::{EMPTY, Texts, merged};
+use mime_store::write_cache;
+use std::alloc::Global;
+use std::process::Abort;
+
+/// Fronts of this are asked, of each length.
+const CONTENT: &[u8] = b"aaaaaaaa";
+
+/// Lines of one section, and how many of these bytes a content needs at least for one of them to hold.
+struct Row {
+    name: &'static str,
+    magic: &'static [u8],
+    least: usize,
+}
+
+static ROWS: [Row; 12] = [
+    Row {
+        name: "no bytes",
+        magic: b"MIME-Magic\0\n[50:t/it]\n>0=\0\0\n",
+        least: 0,
+    },
+    Row {
+        name: "one byte",
+        magic: b"MIME-Magic\0\n[50:t/it]\n>0=\0\x01a\n",
+        least: 1,
+    },
+    Row {
+        name: "two bytes",
+        magic: b"MIME-Magic\0\n[50:t/it]\n>0=\0\x02aa\n",
+        least: 2,
+    },
+    Row {
+        name: "one byte after three",
+        magic: b"MIME-Magic\0\n[50:t/it]\n>3=\0\x01a\n",
+        least: 4,
+    },
+    Row {
+        name: "no bytes after two",
+        magic: b"MIME-Magic\0\n[50:t/it]\n>2=\0\0\n",
+        least: 2,
+    },
+    Row {
+        name: "under a mask",
+        magic: b"MIME-Magic\0\n[50:t/it]\n>1=\0\x02aa&\x0f\x0f\n",
+        least: 3,
+    },
+    Row {
+        name: "a word",
+        magic: b"MIME-Magic\0\n[50:t/it]\n>2=\0\x02aa~2\n",
+        least: 4,
+    },
+    Row {
+        name: "a range",
+        magic: b"MIME-Magic\0\n[50:t/it]\n>1=\0\x02aa+3\n",
+        least: 3,
+    },
+    Row {
+        name: "a shorter line after a longer one",
+        magic: b"MIME-Magic\0\n[50:t/it]\n>4=\0\x02aa\n>0=\0\x03aaa\n",
+        least: 3,
+    },
+    Row {
+        name: "a shorter line before a longer one",
+        magic: b"MIME-Magic\0\n[50:t/it]\n>2=\0\x01a\n>4=\0\x02aa\n",
+        least: 3,
+    },
+    Row {
+        name: "a child",
+        magic: b"MIME-Magic\0\n[50:t/it]\n>0=\0\x01a\n1>4=\0\x01a\n",
+        least: 5,
+    },
+    Row {
+        name: "no lines",
+        magic: b"MIME-Magic\0\n[50:t/it]\n",
+        least: 9,
+    },
+];
+
+/// The type of a front, where so many bytes are needed for the section to hold.
+fn kind_of(least: usize, length: usize) -> &'static [u8] {
+    if length >= least {
+        b"t/it"
+    } else if length == 0 {
+        b"application/x-zerosize"
+    } else {
+        b"text/plain"
+    }
+}
+
+/// A front has this type by the lists, by the index of the database and by that of its cache.
+fn fronts_have(rt: &impl Abort, alloc: Global, row: &Row) {
+    let database = merged(
+        alloc,
+        &[Texts {
+            magic: row.magic,
+            ..EMPTY
+        }],
+    )
+    .expect(rt, "a database");
+    let index = index_of(rt, alloc, &database);
+    let bytes = write_cache(alloc, &database, LARGEST_CACHE).expect(rt, "its cache");
+    let lists = read_back(alloc, &Counted::new(&bytes), &mut Meter::new()).expect(rt, "lists");
+    let of_cache = MagicIndex::new(alloc, lists.magic).expect(rt, "an index");
+    let (host, order) = (Host::Little, Order::ContentOnly);
+    for length in 0..CONTENT.len() + 1 {
+        let front = &CONTENT[..length];
+        let wanted = Ok((kind_of(row.least, length), length as u64));
+        let (mut of_lists, mut of_index) = (Some(front), Some(front));
+        let plain = look_up_plain(alloc, &database, b"q", &mut of_lists, host, order);
+        alike(rt, row.name, outcome_of(plain), wanted);
+        let indexed = look_up_indexed(alloc, &index, b"q", &mut of_index, host, order);
+        alike(rt, row.name, outcome_of(indexed), wanted);
+        let section = of_cache.first_section(front, host, &mut Meter::new());
+        alike(rt, row.name, section.is_some(), length >= row.least);
+    }
+}
+
+#[test]
+fn contents_of_each_length(rt: HostRuntime) {
+    for row in &ROWS {
+        fronts_have(&rt, rt.alloc(), row);
+    }
+}

@@ -1,0 +1,76 @@
+//! The nodes that a name counts of an index, counted by hand: a clause bounds them from above alone.
+
+use super::unprepared_index_of;
+use crate::tests::checked::alike;
+use mime_base::Host;
+use mime_lookup::{Cause, IndexedDatabase, Order, look_up_indexed};
+use mime_samples::texts::{EMPTY, Texts, merged};
+use std::alloc::Global;
+
+/// An ending, whose text is two nodes; a text that ends at its second node, and a general pattern.
+const FEW: Texts<'static> = Texts {
+    globs2: b"50:t/c:*.c\n50:t/make:makefile\n50:t/mine:m[ak]*\n",
+    ..EMPTY
+};
+
+/// Of most rules the general pattern is asked, and no node is counted.
+const GENERAL: Texts<'static> = Texts {
+    globs2: b"50:t/c:*.c\n50:t/make:m?\n50:t/mine:m[ak]*\n",
+    ..EMPTY
+};
+
+/// A step and its node for each byte, the node of each ending, and a step for each rule; where no text matches, those of the
+/// first byte and of any.
+static COUNTED: [(&str, &[u8], Order, u64); 8] = [
+    ("no byte", b"", Order::GlobsFirst, 3),
+    ("an ending that no text has", b"b", Order::GlobsFirst, 4),
+    ("an ending", b"a.c", Order::GlobsFirst, 7),
+    ("a text that ends early", b"makefile", Order::GlobsFirst, 7),
+    (
+        "and one that only ends so",
+        b"profile",
+        Order::GlobsFirst,
+        9,
+    ),
+    ("a general pattern", b"ma", Order::GlobsFirst, 5),
+    (
+        "all rules, of which the kept ones are the first",
+        b"makefile",
+        Order::AllGlobs,
+        10,
+    ),
+    ("the content alone", b"makefile", Order::ContentOnly, 0),
+];
+
+/// The nodes that a name counts, or why there is no answer.
+fn nodes_of(
+    alloc: Global,
+    index: &IndexedDatabase<'_>,
+    name: &[u8],
+    order: Order,
+) -> Result<u64, Cause> {
+    let mut none: Option<&[u8]> = None;
+    match look_up_indexed(alloc, index, name, &mut none, Host::Little, order) {
+        Ok(answer) => Ok(answer.meter.nodes),
+        Err(stopped) => Err(stopped.cause),
+    }
+}
+
+#[test]
+fn steps_of_a_name(rt: HostRuntime) {
+    let alloc = rt.alloc();
+    let database = merged(alloc, &[FEW]).expect(&rt, "a database");
+    let index = unprepared_index_of(&rt, alloc, &database);
+    for &(what, name, order, nodes) in &COUNTED {
+        alike(&rt, what, nodes_of(alloc, &index, name, order), Ok(nodes));
+    }
+}
+
+#[test]
+fn general_patterns_are_no_steps(rt: HostRuntime) {
+    let alloc = rt.alloc();
+    let database = merged(alloc, &[GENERAL]).expect(&rt, "a database");
+    let index = unprepared_index_of(&rt, alloc, &database);
+    let nodes = nodes_of(alloc, &index, b"makefile", Order::GlobsFirst);
+    alike(&rt, "by the lists", nodes, Ok(0));
+}
