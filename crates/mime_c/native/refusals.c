@@ -65,11 +65,14 @@ static mimelook_report is_a(bool *is_left) {
     return report;
 }
 
+/* A type whose icons have long names: short ones take no memory. */
+static const char long_type[] = "aaaaaaaaaaaaaaaaaaaaaaaaaaaaaaaaaaaaaaaa/bbbbbbbbbbbbbbbbbbbb";
+
 static mimelook_report icons(bool *is_left) {
-    uint8_t icon[8] = "before", generic[16] = "before";
+    uint8_t icon[64] = "before", generic[64] = "before";
     mimelook_icon_lengths lengths = {77, 77};
-    mimelook_report report = mimelook_icons(SAMPLE, sizeof SAMPLE, bytes_of("t/h"), 3, icon, sizeof icon, generic,
-        sizeof generic, &lengths);
+    mimelook_report report = mimelook_icons(SAMPLE, sizeof SAMPLE, bytes_of(long_type), sizeof long_type - 1, icon, sizeof icon,
+        generic, sizeof generic, &lengths);
     *is_left = icon[0] == 'b' && generic[0] == 'b' && lengths.icon == 77 && lengths.generic == 77;
     return report;
 }
@@ -138,6 +141,8 @@ static mimelook_report open_directories(bool *is_left) {
 static void take_none(void) {
     static mimelook_text text, other;
     static mimelook_sniffed sniffed;
+    uint8_t icon[8], generic[16];
+    mimelook_icon_lengths lengths;
     uint64_t extent;
     bool is = false;
     made = 0;
@@ -148,6 +153,8 @@ static void take_none(void) {
     CHECK(mimelook_extent(SAMPLE, sizeof SAMPLE, &extent).status == MIMELOOK_ANSWERED);
     CHECK(mimelook_sniff(SAMPLE, sizeof SAMPLE, bytes_of("\x1f\x8b\x08"), 3, &sniffed).status == MIMELOOK_ANSWERED);
     CHECK(mimelook_is_a(SAMPLE, sizeof SAMPLE, bytes_of("t/h"), 3, bytes_of("t/m"), 3, &is).status == MIMELOOK_ANSWERED && is);
+    CHECK(mimelook_icons(SAMPLE, sizeof SAMPLE, bytes_of("t/h"), 3, icon, sizeof icon, generic, sizeof generic, &lengths).status
+        == MIMELOOK_ANSWERED);
     CHECK(mimelook_is_type_name(bytes_of("t/h"), 3) && made == 0);
     refused = 0;
 }
@@ -199,10 +206,11 @@ static mimelook_report database_is_a(bool *is_left) {
 }
 
 static mimelook_report database_icons(bool *is_left) {
-    uint8_t icon[8] = "before", generic[16] = "before";
+    uint8_t icon[64] = "before", generic[64] = "before";
     mimelook_icon_lengths lengths = {77, 77};
     mimelook_database *database = opened(SAMPLE, sizeof SAMPLE);
-    mimelook_report report = mimelook_database_icons(database, bytes_of("t/h"), 3, icon, sizeof icon, generic, sizeof generic, &lengths);
+    mimelook_report report = mimelook_database_icons(database, bytes_of(long_type), sizeof long_type - 1, icon, sizeof icon, generic,
+        sizeof generic, &lengths);
     *is_left = icon[0] == 'b' && generic[0] == 'b' && lengths.icon == 77 && lengths.generic == 77;
     mimelook_close(database);
     return report;

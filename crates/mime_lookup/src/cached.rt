@@ -46,7 +46,7 @@ pub use below::is_below;
 pub use by_name_alone::{look_up_name, look_up_name_again};
 pub use content_alone::{SniffedContent, sniff_again, sniff_alone};
 pub use hits::hits_again;
-pub use icons::{Icons, icon_again, icon_of};
+pub use icons::{IconText, Icons, icon_again, icon_of};
 pub use indexed_cache::IndexedCache;
 use mime_base::{Counted, Host, Meter, TEXTUAL_FRONT};
 use mime_view::Spending;

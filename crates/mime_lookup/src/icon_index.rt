@@ -6,7 +6,7 @@ ghost use Rattle.mime_load.specs.Lent.{plain_pairs};
 ghost use Rattle.mime_lookup.specs.Icons.{icons_of};
 ghost use Rattle.mime_lookup.specs.IconsReadBack.{AreIcons, HasNameMaps};
 
-use crate::cached::icons::{generic_or_media, icon_or_hyphens};
+use crate::cached::icons::{IconText, generic_or_media, icon_or_hyphens};
 use crate::name_map::{NameMap, value_of};
 use crate::read_back::targets::{target_of, targets_by_name, targets_of};
 use mime_base::OutOfMemory;
@@ -44,7 +44,9 @@ impl<'a> IconIndex<'a> {
     }
 
     /// The names of a type's icon and of its generic icon.
-    pub fn names_of(&self, alloc: Global, kind: &[u8]) -> Result<(Vec<u8>, Vec<u8>), OutOfMemory>
+    // Part of each of its two callers.
+    #[inline(always)]
+    pub fn names_of(&self, alloc: Global, kind: &[u8]) -> Result<(IconText, IconText), OutOfMemory>
         // Its names are found.
         requires { HasNameMaps self.now }
         // They are the icons of the type, by each database whose lists these are.

@@ -60,9 +60,9 @@ mod subclass;
 
 pub use answer::{Answer, NameAnswer};
 pub use cached::{
-    Icons, IndexedCache, PaidCache, SniffedContent, hits_again, icon_again, icon_of, is_a,
-    is_a_again, is_below, look_up, look_up_again, look_up_name, look_up_name_again, sniff_again,
-    sniff_alone,
+    IconText, Icons, IndexedCache, PaidCache, SniffedContent, hits_again, icon_again, icon_of,
+    is_a, is_a_again, is_below, look_up, look_up_again, look_up_name, look_up_name_again,
+    sniff_again, sniff_alone,
 };
 pub use content::{Content, ReadFault, Untold};
 pub use indexed::IndexedDatabase;

@@ -1,6 +1,6 @@
 //! The icons of a type, by a cache ("The mime.cache files").
 
-ghost use Rattle.std.specs.Prelude.{◌≡◌, ◌*◌, ◌<◌, ◌==◌, length, option_map, position};
+ghost use Rattle.std.specs.Prelude.{◌≡◌, ◌*◌, ◌<◌, ◌==◌, ◌++◌, codes, length, option_map, position};
 ghost use Rattle.std.specs.Prelude.{IfErr, IfOk, IfSome, OnOk};
 ghost use Rattle.mime_lookup.specs.Asking.{KeepsAsking, StopsAsking};
 ghost use Rattle.mime_lookup.specs.Cached.{cause_of};
@@ -14,18 +14,25 @@ use crate::cached::indexed_cache::IndexedCache;
 use crate::stopped::{Cause, Stopped};
 use mime_base::{Counted, Meter, OutOfMemory, TypeName};
 use mime_view::CacheFault;
+use smallvec::SmallVec;
 use std::alloc::Global;
 
 /// How the name of a generic icon ends that is made of a type.
 const GENERIC: &[u8] = b"-x-generic";
 
+/// Names of icons of at most that many bytes need no allocation.
+const SHORT_NAME: usize = 48;
+
+/// The name of an icon, which lies in the value itself where it is short.
+pub type IconText = SmallVec<u8, SHORT_NAME>;
+
 /// The icons of a type, and what it took to find them.
 #[derive(Debug, Drop)]
 pub struct Icons {
     /// The name of the type's icon.
-    pub icon: Vec<u8>,
+    pub icon: IconText,
     /// The name of the icon that stands for the type and those like it.
-    pub generic: Vec<u8>,
+    pub generic: IconText,
     /// What was looked at.
     pub meter: Meter,
 }
@@ -103,7 +110,7 @@ fn open_and_find<'a>(
     cache: Counted<'a>,
     kind: &'a [u8],
     meter: &mut Meter,
-) -> Result<(Vec<u8>, Vec<u8>), CacheFault>
+) -> Result<(IconText, IconText), CacheFault>
     // Where the aliases and both lists of icons stand, these are the icons of the type.
     ensures answer { AnswersIcons (λ icons. record { icon = icons.0.items; generic = icons.1.items })
         cache.entry kind.entry.now result }
@@ -126,7 +133,7 @@ fn find_icons<'k, 'a: 'k>(
     indexed: &IndexedCache<'a>,
     kind: &'k [u8],
     meter: &mut Meter,
-) -> Result<(Vec<u8>, Vec<u8>), CacheFault>
+) -> Result<(IconText, IconText), CacheFault>
     // Where the aliases and both lists of icons stand, these are the icons of the type.
     ensures answer { AnswersIcons (λ icons. record { icon = icons.0.items; generic = icons.1.items })
         indexed.now kind.entry.now result }
@@ -151,7 +158,7 @@ fn walk<'k, 'a: 'k>(
     indexed: &IndexedCache<'a>,
     kind: &'k [u8],
     meter: &mut Meter,
-) -> Result<(Vec<u8>, Vec<u8>), CacheFault>
+) -> Result<(IconText, IconText), CacheFault>
     // Where the aliases and both lists of icons stand, these are the icons of the type.
     ensures answer { AnswersIcons (λ icons. record { icon = icons.0.items; generic = icons.1.items })
         indexed.now kind.entry.now result }
@@ -173,30 +180,62 @@ fn walk<'k, 'a: 'k>(
 }
 
 /// The icon's name, else the type with a hyphen for each slash.
+// Part of each of its callers, as what it calls for a short name is, so that the name is moved less often.
+#[inline(always)]
 pub fn icon_or_hyphens(
     alloc: Global,
     icon: Option<&[u8]>,
     kind: &[u8],
-) -> Result<Vec<u8>, OutOfMemory>
+) -> Result<IconText, OutOfMemory>
     // It is that name, or the type with a hyphen for each slash.
     ensures { IfOk result (λ name. name.items ≡ name_or (option_map (λ text. text.now) icon.entry) (with_hyphens kind.now)) }
 {
     match icon {
-        Some(name) => Ok(Vec::from_slice(alloc, name)?),
+        Some(name) => text_of(alloc, name),
         None => with_hyphens(alloc, kind),
     }
 }
 
-/// The type with a hyphen for each slash.
-fn with_hyphens(alloc: Global, kind: &[u8]) -> Result<Vec<u8>, OutOfMemory>
+/// A copy of a name.
+#[inline(always)]
+fn text_of(alloc: Global, name: &[u8]) -> Result<IconText, OutOfMemory>
+    ensures { IfOk result (λ text. text.items ≡ name.now) }
+{
+    if SHORT_NAME < name.len() {
+        return Ok(SmallVec::from_slice(alloc, name)?);
+    }
+    let mut room = [0; SHORT_NAME];
+    room[..name.len()].copy_from_slice(name);
+    Ok(SmallVec::from_buf_and_len(alloc, room, name.len()))
+}
+
+/// The type with a hyphen for each slash. All of the room has them put at once, since its size is known.
+#[inline(always)]
+fn with_hyphens(alloc: Global, kind: &[u8]) -> Result<IconText, OutOfMemory>
     ensures { IfOk result (λ name. name.items ≡ with_hyphens kind.now) }
 {
-    let mut name = Vec::from_slice(alloc, kind)?;
+    if SHORT_NAME < kind.len() {
+        return Ok(long_with_hyphens(alloc, kind)?);
+    }
+    let mut room = [0; SHORT_NAME];
+    room[..kind.len()].copy_from_slice(kind);
+    put_hyphens(&mut room);
+    Ok(SmallVec::from_buf_and_len(alloc, room, kind.len()))
+}
+
+/// The same of a long type.
+#[cold]
+#[inline(never)]
+fn long_with_hyphens(alloc: Global, kind: &[u8]) -> Result<IconText, OutOfMemory>
+    ensures { IfOk result (λ name. name.items ≡ with_hyphens kind.now) }
+{
+    let mut name: IconText = SmallVec::from_slice(alloc, kind)?;
     put_hyphens(&mut name);
     Ok(name)
 }
 
 /// Puts a hyphen in the place of each slash.
+#[inline(always)]
 fn put_hyphens(name: &mut [u8])
     ensures { name.new ≡ with_hyphens name.old }
 {
@@ -213,26 +252,45 @@ fn hyphen_for_slash(byte: u8) -> u8
 }
 
 /// The generic icon's name, else what stands before the type's first slash, and `-x-generic`.
+// Part of each of its callers, as `icon_or_hyphens` is.
+#[inline(always)]
 pub fn generic_or_media(
     alloc: Global,
     icon: Option<&[u8]>,
     kind: &[u8],
-) -> Result<Vec<u8>, OutOfMemory>
+) -> Result<IconText, OutOfMemory>
     // It is that name, or what stands before the type's first slash, and `-x-generic`.
     ensures { IfOk result (λ name. name.items ≡ name_or (option_map (λ text. text.now) icon.entry) (generic_of_media kind.now)) }
 {
     match icon {
-        Some(name) => Ok(Vec::from_slice(alloc, name)?),
+        Some(name) => text_of(alloc, name),
         None => generic_of_media(alloc, kind),
     }
 }
 
 /// What stands before the type's first slash, and `-x-generic`.
-fn generic_of_media(alloc: Global, kind: &[u8]) -> Result<Vec<u8>, OutOfMemory>
+#[inline(always)]
+fn generic_of_media(alloc: Global, kind: &[u8]) -> Result<IconText, OutOfMemory>
     ensures { IfOk result (λ name. name.items ≡ generic_of_media kind.now) }
 {
     let front = before_slash(kind);
-    let mut name = Vec::with_capacity(alloc, front.len() + GENERIC.len())?;
+    if SHORT_NAME - GENERIC.len() < front.len() {
+        return Ok(long_generic(alloc, front)?);
+    }
+    let end = front.len() + GENERIC.len();
+    let mut room = [0; SHORT_NAME];
+    room[..front.len()].copy_from_slice(front);
+    room[front.len()..end].copy_from_slice(GENERIC);
+    Ok(SmallVec::from_buf_and_len(alloc, room, end))
+}
+
+/// Long bytes, and `-x-generic`.
+#[cold]
+#[inline(never)]
+fn long_generic(alloc: Global, front: &[u8]) -> Result<IconText, OutOfMemory>
+    ensures { IfOk result (λ name. name.items ≡ front.now ++ codes "-x-generic") }
+{
+    let mut name: IconText = SmallVec::with_capacity(alloc, front.len() + GENERIC.len())?;
     name.extend_from_slice(front)?;
     name.extend_from_slice(GENERIC)?;
     Ok(name)

@@ -4,6 +4,7 @@ ghost use Rattle.std.specs.Prelude.{◌≡◌, IfOk};
 ghost use Rattle.mime_load.specs.IconLists.{AreIconLists};
 ghost use Rattle.mime_lookup.specs.Icons.{AnswersIcons, HasIconLists};
 
+use crate::cached::icons::IconText;
 use crate::icon_index::IconIndex;
 use mime_base::{Counted, OutOfMemory};
 use mime_load::IconLists;
@@ -47,7 +48,9 @@ impl<'a> IndexedIcons<'a> {
     }
 
     /// The names of a type's icon and of its generic icon.
-    pub fn names_of(&self, alloc: Global, kind: &[u8]) -> Result<(Vec<u8>, Vec<u8>), OutOfMemory>
+    // Part of its caller.
+    #[inline(always)]
+    pub fn names_of(&self, alloc: Global, kind: &[u8]) -> Result<(IconText, IconText), OutOfMemory>
         // Where the aliases and both lists of icons of a database stand, they are the icons of the type.
         ensures answer { AnswersIcons (λ names. record { icon = names.0.items; generic = names.1.items }) self.now kind.now result }
         // All three lists lie in the cache.
