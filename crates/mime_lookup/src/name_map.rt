@@ -76,7 +76,8 @@ fn entry_at<'b, 'a, V: Copy>(map: &'b NameMap<'a, V>, number: usize) -> Option<&
 }
 
 /// The value of a name, if it has one.
-#[inline]
+// Part of each of its callers: the mark alone says of most names that they have none.
+#[inline(always)]
 pub fn value_of<V: Copy>(map: &NameMap<'_, V>, name: &[u8]) -> Option<V>
     // It is a map.
     requires { IsNameMap map.now }
