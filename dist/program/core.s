@@ -5744,6 +5744,97 @@
 
 	.text
 	.p2align	4
+	.type	"core::slice::edits::slice+T::swap_with_slice::<i8>",@function
+"core::slice::edits::slice+T::swap_with_slice::<i8>":
+	testq	%rsi, %rsi
+	je	5f
+	cmpq	$4, %rsi
+	jb	1f
+	leaq	(%rdi,%rsi), %rax
+	leaq	(%rdx,%rsi), %rcx
+	cmpq	%rcx, %rdi
+	setb	%cl
+	cmpq	%rax, %rdx
+	setb	%al
+	testb	%al, %cl
+	je	6f
+1:
+	xorl	%eax, %eax
+2:
+	movq	%rax, %rcx
+	orq	$1, %rcx
+	testb	$1, %sil
+	je	3f
+	movzbl	(%rdi,%rax), %r8d
+	movzbl	(%rdx,%rax), %r9d
+	movb	%r9b, (%rdi,%rax)
+	movb	%r8b, (%rdx,%rax)
+	movq	%rcx, %rax
+3:
+	cmpq	%rcx, %rsi
+	je	5f
+	.p2align	4
+4:
+	movzbl	(%rdi,%rax), %ecx
+	movzbl	(%rdx,%rax), %r8d
+	movb	%r8b, (%rdi,%rax)
+	movb	%cl, (%rdx,%rax)
+	movzbl	1(%rdi,%rax), %ecx
+	movzbl	1(%rdx,%rax), %r8d
+	movb	%r8b, 1(%rdi,%rax)
+	movb	%cl, 1(%rdx,%rax)
+	addq	$2, %rax
+	cmpq	%rax, %rsi
+	jne	4b
+5:
+	retq
+6:
+	cmpq	$32, %rsi
+	jae	7f
+	xorl	%eax, %eax
+	jmp	9f
+7:
+	movq	%rsi, %rax
+	andq	$-32, %rax
+	xorl	%ecx, %ecx
+	.p2align	4
+8:
+	movups	(%rdi,%rcx), %xmm0
+	movups	16(%rdi,%rcx), %xmm1
+	movups	(%rdx,%rcx), %xmm2
+	movups	16(%rdx,%rcx), %xmm3
+	movups	%xmm2, (%rdi,%rcx)
+	movups	%xmm3, 16(%rdi,%rcx)
+	movups	%xmm0, (%rdx,%rcx)
+	movups	%xmm1, 16(%rdx,%rcx)
+	addq	$32, %rcx
+	cmpq	%rcx, %rax
+	jne	8b
+	cmpq	%rax, %rsi
+	je	5b
+	testb	$28, %sil
+	je	2b
+9:
+	movq	%rax, %rcx
+	movq	%rsi, %rax
+	andq	$-4, %rax
+	.p2align	4
+10:
+	movl	(%rdi,%rcx), %r8d
+	movl	(%rdx,%rcx), %r9d
+	movl	%r9d, (%rdi,%rcx)
+	movl	%r8d, (%rdx,%rcx)
+	addq	$4, %rcx
+	cmpq	%rcx, %rax
+	jne	10b
+	cmpq	%rax, %rsi
+	je	5b
+	jmp	2b
+11:
+	.size	"core::slice::edits::slice+T::swap_with_slice::<i8>", 11b-"core::slice::edits::slice+T::swap_with_slice::<i8>"
+
+	.text
+	.p2align	4
 	.type	"core::slice::edits::turn_through_room::<i32>",@function
 "core::slice::edits::turn_through_room::<i32>":
 	pushq	%rbp
@@ -6104,6 +6195,452 @@
 	retq
 35:
 	.size	"core::slice::edits::turn_through_room::<i32>", 35b-"core::slice::edits::turn_through_room::<i32>"
+
+	.text
+	.p2align	4
+	.type	"core::slice::edits::turn_through_room::<i8>",@function
+"core::slice::edits::turn_through_room::<i8>":
+	pushq	%r15
+	pushq	%r14
+	pushq	%r13
+	pushq	%r12
+	pushq	%rbx
+	subq	$3072, %rsp
+	movq	$0, (%rsp)
+	subq	$1024, %rsp
+	movq	%rcx, %rbx
+	movq	%rdx, %r12
+	movq	%rsi, %r15
+	movq	%rdi, %r14
+	movq	%rsi, %r13
+	subq	%rcx, %r13
+	movq	%rsp, %rdi
+	movl	$4096, %edx
+	xorl	%esi, %esi
+	callq	memset@PLT
+	cmpq	%r12, %rbx
+	jne	10f
+	movq	%rsp, %rdi
+	movq	%r14, %rsi
+	movq	%rbx, %rdx
+	callq	memcpy@PLT
+	cmpq	$2049, %r13
+	jb	11f
+	leaq	31(%rbx), %rdx
+	leaq	(%r14,%rbx), %rsi
+	addq	$2032, %rsi
+	leaq	2032(%r14), %rdi
+	leaq	(%r14,%rbx), %r8
+	xorl	%eax, %eax
+	movq	%r14, %r9
+	jmp	2f
+	.p2align	4
+1:
+	addq	$2048, %rax
+	movq	%r13, %rcx
+	subq	%rax, %rcx
+	addq	$2048, %rsi
+	addq	$2048, %rdi
+	addq	$2048, %r8
+	addq	$2048, %r9
+	cmpq	$2048, %rcx
+	jbe	12f
+2:
+	leaq	(%rax,%rbx), %rcx
+	cmpq	%rcx, %rax
+	jae	4f
+	leaq	(%r9,%rbx), %rcx
+	cmpq	$32, %rdx
+	jae	6f
+	movl	$3, %r10d
+	.p2align	4
+3:
+	movzbl	-3(%rcx,%r10), %r11d
+	movb	%r11b, -3(%r9,%r10)
+	movzbl	-2(%rcx,%r10), %r11d
+	movb	%r11b, -2(%r9,%r10)
+	movzbl	-1(%rcx,%r10), %r11d
+	movb	%r11b, -1(%r9,%r10)
+	movzbl	(%rcx,%r10), %r11d
+	movb	%r11b, (%r9,%r10)
+	addq	$4, %r10
+	cmpq	$2051, %r10
+	jne	3b
+	jmp	1b
+	.p2align	4
+4:
+	cmpq	$32, %rbx
+	jae	8f
+	movl	$2048, %ecx
+	.p2align	4
+5:
+	movzbl	-1(%r8,%rcx), %r10d
+	movb	%r10b, -1(%r9,%rcx)
+	movzbl	-2(%r8,%rcx), %r10d
+	movb	%r10b, -2(%r9,%rcx)
+	movzbl	-3(%r8,%rcx), %r10d
+	movb	%r10b, -3(%r9,%rcx)
+	movzbl	-4(%r8,%rcx), %r10d
+	movb	%r10b, -4(%r9,%rcx)
+	addq	$-4, %rcx
+	jne	5b
+	jmp	1b
+	.p2align	4
+6:
+	movl	$112, %r10d
+	.p2align	4
+7:
+	movups	-112(%rcx,%r10), %xmm0
+	movups	-96(%rcx,%r10), %xmm1
+	movups	%xmm0, -112(%r9,%r10)
+	movups	%xmm1, -96(%r9,%r10)
+	movups	-80(%rcx,%r10), %xmm0
+	movups	-64(%rcx,%r10), %xmm1
+	movups	%xmm0, -80(%r9,%r10)
+	movups	%xmm1, -64(%r9,%r10)
+	movups	-48(%rcx,%r10), %xmm0
+	movups	-32(%rcx,%r10), %xmm1
+	movups	%xmm0, -48(%r9,%r10)
+	movups	%xmm1, -32(%r9,%r10)
+	movups	-16(%rcx,%r10), %xmm0
+	movups	(%rcx,%r10), %xmm1
+	movups	%xmm0, -16(%r9,%r10)
+	movups	%xmm1, (%r9,%r10)
+	subq	$-128, %r10
+	cmpq	$2160, %r10
+	jne	7b
+	jmp	1b
+	.p2align	4
+8:
+	xorl	%ecx, %ecx
+	.p2align	4
+9:
+	movups	-16(%rsi,%rcx), %xmm0
+	movups	(%rsi,%rcx), %xmm1
+	movups	%xmm1, (%rdi,%rcx)
+	movups	%xmm0, -16(%rdi,%rcx)
+	movups	-48(%rsi,%rcx), %xmm0
+	movups	-32(%rsi,%rcx), %xmm1
+	movups	%xmm1, -32(%rdi,%rcx)
+	movups	%xmm0, -48(%rdi,%rcx)
+	movups	-80(%rsi,%rcx), %xmm0
+	movups	-64(%rsi,%rcx), %xmm1
+	movups	%xmm1, -64(%rdi,%rcx)
+	movups	%xmm0, -80(%rdi,%rcx)
+	movups	-112(%rsi,%rcx), %xmm0
+	movups	-96(%rsi,%rcx), %xmm1
+	movups	%xmm1, -96(%rdi,%rcx)
+	movups	%xmm0, -112(%rdi,%rcx)
+	addq	$-128, %rcx
+	cmpq	$-2048, %rcx
+	jne	9b
+	jmp	1b
+10:
+	leaq	(%r14,%r13), %rsi
+	movq	%rsp, %rdi
+	movq	%rbx, %rdx
+	callq	memcpy@PLT
+	testq	%rbx, %rbx
+	je	40f
+	cmpq	%rbx, %r15
+	je	40f
+	cmpq	$8, %r13
+	setb	%al
+	leaq	31(%rbx), %rcx
+	cmpq	$32, %rcx
+	setb	%cl
+	orb	%al, %cl
+	je	14f
+	xorl	%eax, %eax
+	jmp	21f
+11:
+	xorl	%eax, %eax
+	movq	%r13, %rcx
+12:
+	leaq	(%rax,%rbx), %rdx
+	cmpq	%rdx, %rax
+	jae	13f
+	cmpq	%rax, %r13
+	je	39f
+	addq	%r14, %rdx
+	leaq	(%r14,%rax), %rsi
+	cmpq	$4, %rcx
+	setb	%dil
+	leaq	31(%rbx), %r8
+	cmpq	$32, %r8
+	setb	%r8b
+	orb	%dil, %r8b
+	je	15f
+	xorl	%edi, %edi
+	jmp	27f
+13:
+	cmpq	%rax, %r13
+	je	39f
+	cmpq	$8, %rcx
+	setb	%dl
+	cmpq	$32, %rbx
+	setb	%sil
+	orb	%dl, %sil
+	je	16f
+	xorl	%edx, %edx
+	jmp	35f
+14:
+	cmpq	$32, %r13
+	jae	17f
+	xorl	%eax, %eax
+	jmp	19f
+15:
+	cmpq	$32, %rcx
+	jae	23f
+	xorl	%edi, %edi
+	jmp	25f
+16:
+	cmpq	$32, %rcx
+	jae	31f
+	xorl	%edx, %edx
+	jmp	33f
+17:
+	movq	%r13, %rax
+	andq	$-32, %rax
+	movq	%rax, %rcx
+	negq	%rcx
+	leaq	-16(%r15), %rdx
+	subq	%rbx, %rdx
+	addq	%r14, %rdx
+	leaq	(%r14,%r15), %rsi
+	addq	$-16, %rsi
+	xorl	%edi, %edi
+	.p2align	4
+18:
+	movups	-16(%rdx,%rdi), %xmm0
+	movups	(%rdx,%rdi), %xmm1
+	movups	%xmm1, (%rsi,%rdi)
+	movups	%xmm0, -16(%rsi,%rdi)
+	addq	$-32, %rdi
+	cmpq	%rdi, %rcx
+	jne	18b
+	cmpq	%rax, %r13
+	je	40f
+	testb	$24, %r13b
+	je	21f
+19:
+	movq	%rax, %rcx
+	movq	%r13, %rax
+	andq	$-8, %rax
+	movq	%rax, %rdx
+	negq	%rdx
+	negq	%rcx
+	leaq	-8(%r15), %rsi
+	subq	%rbx, %rsi
+	addq	%r14, %rsi
+	leaq	(%r14,%r15), %rdi
+	addq	$-8, %rdi
+	.p2align	4
+20:
+	movq	(%rsi,%rcx), %r8
+	movq	%r8, (%rdi,%rcx)
+	addq	$-8, %rcx
+	cmpq	%rcx, %rdx
+	jne	20b
+	cmpq	%rax, %r13
+	je	40f
+21:
+	subq	%rax, %r15
+	movq	%rbx, %rax
+	notq	%rax
+	addq	%r14, %rax
+	.p2align	4
+22:
+	movzbl	(%rax,%r15), %ecx
+	movb	%cl, -1(%r14,%r15)
+	decq	%r15
+	cmpq	%r15, %rbx
+	jne	22b
+	jmp	40f
+23:
+	movl	%ecx, %edi
+	andl	$4064, %edi
+	leaq	(%rbx,%rsi), %r8
+	addq	$16, %r8
+	leaq	(%rax,%r14), %r9
+	addq	$16, %r9
+	xorl	%r10d, %r10d
+	.p2align	4
+24:
+	movups	-16(%r8,%r10), %xmm0
+	movups	(%r8,%r10), %xmm1
+	movups	%xmm0, -16(%r9,%r10)
+	movups	%xmm1, (%r9,%r10)
+	addq	$32, %r10
+	cmpq	%r10, %rdi
+	jne	24b
+	cmpq	%rdi, %rcx
+	je	39f
+	testb	$28, %cl
+	je	27f
+25:
+	movq	%rdi, %r8
+	movl	%ecx, %edi
+	andl	$4092, %edi
+	.p2align	4
+26:
+	movl	(%rdx,%r8), %r9d
+	movl	%r9d, (%rsi,%r8)
+	addq	$4, %r8
+	cmpq	%r8, %rdi
+	jne	26b
+	cmpq	%rdi, %rcx
+	je	39f
+27:
+	movq	%rcx, %r9
+	movq	%rdi, %r8
+	andq	$3, %r9
+	je	29f
+	movq	%rdi, %r8
+	.p2align	4
+28:
+	movzbl	(%rdx,%r8), %r10d
+	movb	%r10b, (%rsi,%r8)
+	incq	%r8
+	decq	%r9
+	jne	28b
+29:
+	subq	%rcx, %rdi
+	cmpq	$-4, %rdi
+	ja	39f
+	leaq	(%rbx,%rsi), %rdx
+	addq	$3, %rdx
+	addq	%r14, %rax
+	addq	$3, %rax
+	.p2align	4
+30:
+	movzbl	-3(%rdx,%r8), %esi
+	movb	%sil, -3(%rax,%r8)
+	movzbl	-2(%rdx,%r8), %esi
+	movb	%sil, -2(%rax,%r8)
+	movzbl	-1(%rdx,%r8), %esi
+	movb	%sil, -1(%rax,%r8)
+	movzbl	(%rdx,%r8), %esi
+	movb	%sil, (%rax,%r8)
+	addq	$4, %r8
+	cmpq	%r8, %rcx
+	jne	30b
+	jmp	39f
+31:
+	movl	%ecx, %edx
+	andl	$4064, %edx
+	movq	%rdx, %rsi
+	negq	%rsi
+	leaq	(%rcx,%rax), %r8
+	leaq	(%r8,%r14), %rdi
+	addq	%rbx, %rdi
+	addq	$-16, %rdi
+	addq	%r14, %r8
+	addq	$-16, %r8
+	xorl	%r9d, %r9d
+	.p2align	4
+32:
+	movups	-16(%rdi,%r9), %xmm0
+	movups	(%rdi,%r9), %xmm1
+	movups	%xmm1, (%r8,%r9)
+	movups	%xmm0, -16(%r8,%r9)
+	addq	$-32, %r9
+	cmpq	%r9, %rsi
+	jne	32b
+	cmpq	%rdx, %rcx
+	je	39f
+	testb	$24, %cl
+	je	35f
+33:
+	movq	%rdx, %rsi
+	leaq	(%rcx,%rax), %r8
+	leaq	(%r8,%rbx), %rdi
+	subq	%rdx, %rdi
+	subq	%rdx, %r8
+	movl	%ecx, %edx
+	andl	$4088, %edx
+	subq	%rdx, %rsi
+	addq	%r14, %rdi
+	addq	$-8, %rdi
+	addq	%r14, %r8
+	addq	$-8, %r8
+	xorl	%r9d, %r9d
+	.p2align	4
+34:
+	movq	(%rdi,%r9), %r10
+	movq	%r10, (%r8,%r9)
+	addq	$-8, %r9
+	cmpq	%r9, %rsi
+	jne	34b
+	cmpq	%rdx, %rcx
+	je	39f
+35:
+	movq	%rcx, %rdi
+	movq	%rdx, %rsi
+	andq	$3, %rdi
+	je	37f
+	leaq	(%rcx,%rax), %r9
+	leaq	(%r9,%rbx), %rsi
+	movq	%rdx, %r8
+	notq	%r8
+	addq	%r14, %rsi
+	addq	%r8, %rsi
+	addq	%r9, %r8
+	addq	%r14, %r8
+	negq	%rdi
+	xorl	%r9d, %r9d
+	.p2align	4
+36:
+	movzbl	(%rsi,%r9), %r10d
+	movb	%r10b, (%r8,%r9)
+	decq	%r9
+	cmpq	%r9, %rdi
+	jne	36b
+	movq	%rdx, %rsi
+	subq	%r9, %rsi
+37:
+	subq	%rcx, %rdx
+	cmpq	$-4, %rdx
+	ja	39f
+	addq	%rcx, %rax
+	movq	%rsi, %rdi
+	notq	%rdi
+	leaq	(%r14,%rax), %rdx
+	addq	%rdi, %rdx
+	addq	%rbx, %rax
+	addq	%r14, %rax
+	addq	%rdi, %rax
+	subq	%rcx, %rsi
+	xorl	%ecx, %ecx
+	.p2align	4
+38:
+	movzbl	(%rax,%rcx), %edi
+	movb	%dil, (%rdx,%rcx)
+	movzbl	-1(%rax,%rcx), %edi
+	movb	%dil, -1(%rdx,%rcx)
+	movzbl	-2(%rax,%rcx), %edi
+	movb	%dil, -2(%rdx,%rcx)
+	movzbl	-3(%rax,%rcx), %edi
+	movb	%dil, -3(%rdx,%rcx)
+	addq	$-4, %rcx
+	cmpq	%rcx, %rsi
+	jne	38b
+39:
+	addq	%r13, %r14
+40:
+	movq	%rsp, %rsi
+	movq	%r14, %rdi
+	movq	%rbx, %rdx
+	callq	memcpy@PLT
+	addq	$4096, %rsp
+	popq	%rbx
+	popq	%r12
+	popq	%r13
+	popq	%r14
+	popq	%r15
+	retq
+41:
+	.size	"core::slice::edits::turn_through_room::<i8>", 41b-"core::slice::edits::turn_through_room::<i8>"
 
 	.text
 	.p2align	4

@@ -2,6 +2,298 @@
 
 	.text
 	.p2align	4
+	.type	"smallvec::small_vec::SmallVec::extend_from_slice::<#58247b01769054f4>",@function
+"smallvec::small_vec::SmallVec::extend_from_slice::<#58247b01769054f4>":
+	pushq	%r15
+	pushq	%r14
+	pushq	%r13
+	pushq	%r12
+	pushq	%rbx
+	movq	%rdi, %rbx
+	movzbl	(%rdi), %eax
+	leaq	16(%rdi), %r13
+	leaq	56(%rdi), %rcx
+	testb	%al, %al
+	cmovneq	%r13, %rcx
+	movq	(%rcx), %rcx
+	je	9f
+	movq	24(%rbx), %rdi
+	subq	%rcx, %rdi
+	cmpq	%rdi, %rdx
+	jbe	10f
+1:
+	movq	%rdx, %rax
+	notq	%rax
+	leaq	(%rcx,%rdx), %r8
+	xorl	%edi, %edi
+	cmpq	%rax, %rcx
+	cmovbeq	%r8, %rdi
+	seta	%cl
+	movabsq	$-9223372036854775808, %rax
+	cmpq	%rax, %rdi
+	seta	%r8b
+	movb	$1, %al
+	orb	%cl, %r8b
+	jne	23f
+	movq	%rsi, %r14
+	movq	%rdx, %r15
+	movl	$1, %esi
+	cmpq	$2, %rdi
+	jb	2f
+	decq	%rdi
+	movl	$127, %ecx
+	bsrq	%rdi, %rcx
+	xorl	$63, %ecx
+	negb	%cl
+	shlq	%cl, %rsi
+2:
+	movq	%rbx, %rdi
+	callq	"smallvec::small_vec::SmallVec::grow::<#4c0255fda7f36d01>"
+	testb	%al, %al
+	movb	$1, %al
+	jne	23f
+	movzbl	(%rbx), %eax
+	movq	%r15, %rdx
+	movq	%r14, %rsi
+	testb	%al, %al
+	jne	11f
+3:
+	movq	56(%rbx), %r15
+	movl	$48, %eax
+	subq	%r15, %rax
+	cmpq	%rdx, %rax
+	jb	35f
+	leaq	(%rbx,%r15), %rdi
+	addq	$8, %rdi
+	movq	%rdi, %rax
+	subq	%rsi, %rax
+	cmpq	%rdx, %rax
+	jae	20f
+	cmpq	$4, %rdx
+	jb	4f
+	leaq	(%r15,%rbx), %rax
+	subq	%rsi, %rax
+	addq	$8, %rax
+	cmpq	$32, %rax
+	jae	25f
+4:
+	xorl	%eax, %eax
+5:
+	movq	%rdx, %r8
+	movq	%rax, %rcx
+	andq	$3, %r8
+	je	7f
+	movq	%rax, %rcx
+	.p2align	4
+6:
+	movzbl	(%rsi,%rcx), %r9d
+	movb	%r9b, (%rdi,%rcx)
+	incq	%rcx
+	decq	%r8
+	jne	6b
+7:
+	subq	%rdx, %rax
+	cmpq	$-4, %rax
+	ja	21f
+	leaq	(%r15,%rbx), %rax
+	addq	$11, %rax
+	.p2align	4
+8:
+	movzbl	(%rsi,%rcx), %edi
+	movb	%dil, -3(%rax,%rcx)
+	movzbl	1(%rsi,%rcx), %edi
+	movb	%dil, -2(%rax,%rcx)
+	movzbl	2(%rsi,%rcx), %edi
+	movb	%dil, -1(%rax,%rcx)
+	movzbl	3(%rsi,%rcx), %edi
+	movb	%dil, (%rax,%rcx)
+	addq	$4, %rcx
+	cmpq	%rcx, %rdx
+	jne	8b
+	jmp	21f
+9:
+	movl	$48, %edi
+	subq	%rcx, %rdi
+	cmpq	%rdi, %rdx
+	ja	1b
+10:
+	testb	%al, %al
+	je	3b
+11:
+	movq	16(%rbx), %rax
+	movq	24(%rbx), %r14
+	movq	%r14, %rcx
+	subq	%rax, %rcx
+	cmpq	%rcx, %rdx
+	ja	30f
+12:
+	leaq	(%rax,%rdx), %r15
+	movq	8(%rbx), %r12
+	xorps	%xmm0, %xmm0
+	movups	%xmm0, (%r13)
+	leaq	(%r12,%rax), %rdi
+	movq	%rdi, %rcx
+	subq	%rsi, %rcx
+	cmpq	%rdx, %rcx
+	jae	18f
+	cmpq	$4, %rdx
+	jb	13f
+	cmpq	$32, %rcx
+	jae	24f
+13:
+	xorl	%ecx, %ecx
+14:
+	movq	%rdx, %r9
+	movq	%rcx, %r8
+	andq	$3, %r9
+	je	16f
+	movq	%rcx, %r8
+	.p2align	4
+15:
+	movzbl	(%rsi,%r8), %r10d
+	movb	%r10b, (%rdi,%r8)
+	incq	%r8
+	decq	%r9
+	jne	15b
+16:
+	subq	%rdx, %rcx
+	cmpq	$-4, %rcx
+	ja	19f
+	addq	%r12, %rax
+	addq	$3, %rax
+	.p2align	4
+17:
+	movzbl	(%rsi,%r8), %ecx
+	movb	%cl, -3(%rax,%r8)
+	movzbl	1(%rsi,%r8), %ecx
+	movb	%cl, -2(%rax,%r8)
+	movzbl	2(%rsi,%r8), %ecx
+	movb	%cl, -1(%rax,%r8)
+	movzbl	3(%rsi,%r8), %ecx
+	movb	%cl, (%rax,%r8)
+	addq	$4, %r8
+	cmpq	%r8, %rdx
+	jne	17b
+	jmp	19f
+18:
+	callq	memmove@PLT
+19:
+	movq	%r12, 8(%rbx)
+	movq	%r15, 16(%rbx)
+	movq	%r14, 24(%rbx)
+	jmp	22f
+20:
+	movq	%rdx, %r14
+	callq	memmove@PLT
+	movq	%r14, %rdx
+21:
+	addq	%rdx, %r15
+	movq	%r15, 56(%rbx)
+22:
+	xorl	%eax, %eax
+23:
+	popq	%rbx
+	popq	%r12
+	popq	%r13
+	popq	%r14
+	popq	%r15
+	retq
+24:
+	cmpq	$32, %rdx
+	jae	26f
+	xorl	%ecx, %ecx
+	jmp	28f
+25:
+	cmpq	$32, %rdx
+	jae	31f
+	xorl	%eax, %eax
+	jmp	33f
+26:
+	movq	%rdx, %rcx
+	andq	$-32, %rcx
+	leaq	(%rax,%r12), %r8
+	addq	$16, %r8
+	xorl	%r9d, %r9d
+	.p2align	4
+27:
+	movups	(%rsi,%r9), %xmm0
+	movups	16(%rsi,%r9), %xmm1
+	movups	%xmm0, -16(%r8,%r9)
+	movups	%xmm1, (%r8,%r9)
+	addq	$32, %r9
+	cmpq	%r9, %rcx
+	jne	27b
+	cmpq	%rcx, %rdx
+	je	19b
+	testb	$28, %dl
+	je	14b
+28:
+	movq	%rcx, %r8
+	movq	%rdx, %rcx
+	andq	$-4, %rcx
+	.p2align	4
+29:
+	movl	(%rsi,%r8), %r9d
+	movl	%r9d, (%rdi,%r8)
+	addq	$4, %r8
+	cmpq	%r8, %rcx
+	jne	29b
+	cmpq	%rcx, %rdx
+	je	19b
+	jmp	14b
+30:
+	movq	%rsi, %r15
+	leaq	8(%rbx), %rdi
+	movq	%rdx, %r12
+	movq	%rdx, %rsi
+	callq	"std_alloc::vec::Vec::grow_amortized::<#f7f783c9c62e5f91>"
+	testb	%al, %al
+	je	35f
+	movq	16(%rbx), %rax
+	movq	24(%rbx), %r14
+	movq	%r12, %rdx
+	movq	%r15, %rsi
+	jmp	12b
+31:
+	movq	%rdx, %rax
+	andq	$-32, %rax
+	leaq	(%r15,%rbx), %rcx
+	addq	$24, %rcx
+	xorl	%r8d, %r8d
+	.p2align	4
+32:
+	movups	(%rsi,%r8), %xmm0
+	movups	16(%rsi,%r8), %xmm1
+	movups	%xmm0, -16(%rcx,%r8)
+	movups	%xmm1, (%rcx,%r8)
+	addq	$32, %r8
+	cmpq	%r8, %rax
+	jne	32b
+	cmpq	%rax, %rdx
+	je	21b
+	testb	$28, %dl
+	je	5b
+33:
+	movq	%rax, %rcx
+	movq	%rdx, %rax
+	andq	$-4, %rax
+	.p2align	4
+34:
+	movl	(%rsi,%rcx), %r8d
+	movl	%r8d, (%rdi,%rcx)
+	addq	$4, %rcx
+	cmpq	%rcx, %rax
+	jne	34b
+	cmpq	%rax, %rdx
+	je	21b
+	jmp	5b
+35:
+	ud2
+36:
+	.size	"smallvec::small_vec::SmallVec::extend_from_slice::<#58247b01769054f4>", 36b-"smallvec::small_vec::SmallVec::extend_from_slice::<#58247b01769054f4>"
+
+	.text
+	.p2align	4
 	.type	"smallvec::small_vec::SmallVec::extend_from_slice::<#8f588e0f66f62309>",@function
 "smallvec::small_vec::SmallVec::extend_from_slice::<#8f588e0f66f62309>":
 	pushq	%rbp
@@ -403,6 +695,202 @@
 
 	.text
 	.p2align	4
+	.type	"smallvec::small_vec::SmallVec::from_slice::<#58247b01769054f4>",@function
+"smallvec::small_vec::SmallVec::from_slice::<#58247b01769054f4>":
+	pushq	%rbp
+	pushq	%r15
+	pushq	%r14
+	pushq	%r13
+	pushq	%r12
+	pushq	%rbx
+	subq	$184, %rsp
+	movq	%rdx, %r14
+	movq	%rsi, %r15
+	movq	%rdi, %rbx
+	xorps	%xmm0, %xmm0
+	movaps	%xmm0, 112(%rsp)
+	movaps	%xmm0, 96(%rsp)
+	movaps	%xmm0, 80(%rsp)
+	movaps	%xmm0, 64(%rsp)
+	leaq	64(%rsp), %rdi
+	movq	%rdx, %rsi
+	callq	"smallvec::small_vec::SmallVec::grow::<#4c0255fda7f36d01>"
+	movzbl	64(%rsp), %ecx
+	testb	%al, %al
+	je	2f
+	testq	%rcx, %rcx
+	je	1f
+	cmpq	$0, 88(%rsp)
+	je	1f
+	movq	72(%rsp), %rdi
+	callq	rattle_dealloc@PLT
+1:
+	movb	$1, (%rbx)
+	xorps	%xmm0, %xmm0
+	movups	%xmm0, 8(%rbx)
+	movups	%xmm0, 24(%rbx)
+	movups	%xmm0, 40(%rbx)
+	movups	%xmm0, 56(%rbx)
+	jmp	12f
+2:
+	leaq	72(%rsp), %rax
+	movq	48(%rax), %rdx
+	movq	%rdx, 176(%rsp)
+	movups	(%rax), %xmm0
+	movups	16(%rax), %xmm1
+	movups	32(%rax), %xmm2
+	movaps	%xmm2, 160(%rsp)
+	movaps	%xmm1, 144(%rsp)
+	movaps	%xmm0, 128(%rsp)
+	movq	%rcx, (%rsp)
+	leaq	8(%rsp), %r12
+	movups	%xmm0, 8(%rsp)
+	movups	%xmm1, 24(%rsp)
+	movups	%xmm2, 40(%rsp)
+	movq	%rdx, 56(%rsp)
+	testq	%rcx, %rcx
+	je	8f
+	movq	16(%rsp), %rax
+	movq	24(%rsp), %r13
+	movq	%r13, %rcx
+	subq	%rax, %rcx
+	cmpq	%rcx, %r14
+	ja	16f
+3:
+	leaq	(%rax,%r14), %rbp
+	movq	8(%rsp), %rcx
+	leaq	(%rcx,%rax), %rdi
+	movq	%rdi, %rdx
+	subq	%r15, %rdx
+	cmpq	%r14, %rdx
+	jae	9f
+	cmpq	$32, %rdx
+	jae	13f
+	xorl	%edx, %edx
+4:
+	movq	%r14, %r8
+	movq	%rdx, %rsi
+	andq	$3, %r8
+	je	6f
+	movq	%rdx, %rsi
+	.p2align	4
+5:
+	movzbl	(%r15,%rsi), %r9d
+	movb	%r9b, (%rdi,%rsi)
+	incq	%rsi
+	decq	%r8
+	jne	5b
+6:
+	subq	%r14, %rdx
+	cmpq	$-4, %rdx
+	ja	10f
+	addq	%rcx, %rax
+	addq	$3, %rax
+	.p2align	4
+7:
+	movzbl	(%r15,%rsi), %ecx
+	movb	%cl, -3(%rax,%rsi)
+	movzbl	1(%r15,%rsi), %ecx
+	movb	%cl, -2(%rax,%rsi)
+	movzbl	2(%r15,%rsi), %ecx
+	movb	%cl, -1(%rax,%rsi)
+	movzbl	3(%r15,%rsi), %ecx
+	movb	%cl, (%rax,%rsi)
+	addq	$4, %rsi
+	cmpq	%rsi, %r14
+	jne	7b
+	jmp	10f
+8:
+	movq	56(%rsp), %r13
+	movl	$48, %eax
+	subq	%r13, %rax
+	cmpq	%r14, %rax
+	jb	18f
+	leaq	(%r12,%r13), %rdi
+	movq	%r15, %rsi
+	movq	%r14, %rdx
+	callq	memcpy@PLT
+	addq	%r14, %r13
+	movq	%r13, 56(%rsp)
+	jmp	11f
+9:
+	movq	%r15, %rsi
+	movq	%r14, %rdx
+	callq	memmove@PLT
+10:
+	movq	%rbp, 16(%rsp)
+	movq	%r13, 24(%rsp)
+11:
+	movzbl	(%rsp), %eax
+	movb	$0, (%rbx)
+	movq	%rax, 8(%rbx)
+	movups	(%r12), %xmm0
+	movups	16(%r12), %xmm1
+	movups	32(%r12), %xmm2
+	movups	%xmm0, 16(%rbx)
+	movups	%xmm1, 32(%rbx)
+	movups	%xmm2, 48(%rbx)
+	movq	48(%r12), %rax
+	movq	%rax, 64(%rbx)
+12:
+	addq	$184, %rsp
+	popq	%rbx
+	popq	%r12
+	popq	%r13
+	popq	%r14
+	popq	%r15
+	popq	%rbp
+	retq
+13:
+	movq	%r14, %rsi
+	andq	$-32, %rsi
+	leaq	(%rax,%rcx), %rdx
+	addq	$16, %rdx
+	xorl	%r8d, %r8d
+	.p2align	4
+14:
+	movups	(%r15,%r8), %xmm0
+	movups	16(%r15,%r8), %xmm1
+	movups	%xmm0, -16(%rdx,%r8)
+	movups	%xmm1, (%rdx,%r8)
+	addq	$32, %r8
+	cmpq	%r8, %rsi
+	jne	14b
+	cmpq	%rsi, %r14
+	je	10b
+	testb	$28, %r14b
+	je	17f
+	movq	%r14, %rdx
+	andq	$-4, %rdx
+	.p2align	4
+15:
+	movl	(%r15,%rsi), %r8d
+	movl	%r8d, (%rdi,%rsi)
+	addq	$4, %rsi
+	cmpq	%rsi, %rdx
+	jne	15b
+	cmpq	%rdx, %r14
+	jne	4b
+	jmp	10b
+16:
+	leaq	8(%rsp), %rdi
+	movq	%r14, %rsi
+	callq	"std_alloc::vec::Vec::grow_amortized::<#f7f783c9c62e5f91>"
+	testb	%al, %al
+	je	18f
+	movq	16(%rsp), %rax
+	movq	24(%rsp), %r13
+	jmp	3b
+17:
+	movq	%rsi, %rdx
+	jmp	4b
+18:
+	ud2
+19:
+	.size	"smallvec::small_vec::SmallVec::from_slice::<#58247b01769054f4>", 19b-"smallvec::small_vec::SmallVec::from_slice::<#58247b01769054f4>"
+
+	.text
+	.p2align	4
 	.type	"smallvec::small_vec::SmallVec::from_slice::<#940dc9c6c8ede164>",@function
 "smallvec::small_vec::SmallVec::from_slice::<#940dc9c6c8ede164>":
 	pushq	%r15
@@ -586,6 +1074,339 @@
 	ud2
 19:
 	.size	"smallvec::small_vec::SmallVec::from_slice::<#940dc9c6c8ede164>", 19b-"smallvec::small_vec::SmallVec::from_slice::<#940dc9c6c8ede164>"
+
+	.text
+	.p2align	4
+	.type	"smallvec::small_vec::SmallVec::grow::<#4c0255fda7f36d01>",@function
+"smallvec::small_vec::SmallVec::grow::<#4c0255fda7f36d01>":
+	pushq	%r15
+	pushq	%r14
+	pushq	%r13
+	pushq	%r12
+	pushq	%rbx
+	subq	$144, %rsp
+	movzbl	(%rdi), %eax
+	leaq	16(%rdi), %rcx
+	leaq	56(%rdi), %rdx
+	testb	%al, %al
+	cmoveq	%rdx, %rcx
+	movq	%rsi, %r14
+	subq	(%rcx), %r14
+	jae	3f
+1:
+	xorl	%eax, %eax
+2:
+	addq	$144, %rsp
+	popq	%rbx
+	popq	%r12
+	popq	%r13
+	popq	%r14
+	popq	%r15
+	retq
+3:
+	cmpq	$48, %rsi
+	ja	4f
+	cmpb	$1, %al
+	jne	1b
+	movq	8(%rdi), %rax
+	movq	16(%rdi), %r8
+	movq	24(%rdi), %rcx
+	leaq	15(%rsp), %rdx
+	movq	%rdx, 8(%rdi)
+	xorps	%xmm0, %xmm0
+	movups	%xmm0, 16(%rdi)
+	movaps	%xmm0, 48(%rsp)
+	movaps	%xmm0, 32(%rsp)
+	movaps	%xmm0, 16(%rsp)
+	movq	$0, 64(%rsp)
+	testq	%r8, %r8
+	je	18f
+	movl	%r8d, %edx
+	andl	$3, %edx
+	cmpq	$4, %r8
+	jae	14f
+	xorl	%esi, %esi
+	jmp	16f
+4:
+	leaq	8(%rdi), %rbx
+	testb	%al, %al
+	je	5f
+	movq	24(%rdi), %rcx
+	cmpq	%rcx, %rsi
+	jae	13f
+	movq	16(%rdi), %rax
+	cmpq	%rsi, %rax
+	cmovaq	%rax, %rsi
+	cmpq	%rcx, %rax
+	jae	1b
+	movq	%rdi, %r14
+	movq	(%rbx), %rdi
+	movl	$1, %ecx
+	movq	%rsi, %rdx
+	movq	%rax, %rsi
+	movq	%rdx, %rbx
+	callq	rattle_realloc@PLT
+	testb	$1, %al
+	je	1b
+	movq	%rdx, 8(%r14)
+	movq	%rbx, 24(%r14)
+	jmp	1b
+5:
+	movb	$1, %al
+	testq	%rsi, %rsi
+	js	2b
+	movq	%rdi, %r12
+	movq	%rsi, %rdi
+	movl	$1, %esi
+	movq	%rdi, %r13
+	callq	rattle_alloc@PLT
+	movq	%rax, %rcx
+	movb	$1, %al
+	testb	$1, %cl
+	je	2b
+	movq	%rdx, %r14
+	movq	56(%r12), %r15
+	movq	%rbx, %rdi
+	movq	%r15, %rsi
+	movq	%r15, %rdx
+	callq	"arrayvec::array_vec::move_to_end::<i8>"
+	movq	%r12, %rcx
+	testq	%r15, %r15
+	movq	%r13, %rsi
+	je	11f
+	cmpq	$8, %r15
+	jb	6f
+	leaq	(%rcx,%r15), %rax
+	addq	$8, %rax
+	leaq	(%r14,%r15), %rdx
+	cmpq	%rdx, %rbx
+	setb	%dl
+	cmpq	%r14, %rax
+	seta	%al
+	testb	%al, %dl
+	je	21f
+6:
+	xorl	%eax, %eax
+7:
+	movq	%r15, %rdi
+	movq	%rax, %rdx
+	andq	$3, %rdi
+	je	9f
+	movq	%rax, %rdx
+	.p2align	4
+8:
+	movzbl	(%rbx,%rdx), %r8d
+	movb	$0, (%rbx,%rdx)
+	movb	%r8b, (%r14,%rdx)
+	incq	%rdx
+	decq	%rdi
+	jne	8b
+9:
+	subq	%r15, %rax
+	cmpq	$-4, %rax
+	ja	11f
+	.p2align	4
+10:
+	movzbl	8(%rcx,%rdx), %eax
+	movb	$0, 8(%rcx,%rdx)
+	movb	%al, (%r14,%rdx)
+	movzbl	9(%rcx,%rdx), %eax
+	movb	$0, 9(%rcx,%rdx)
+	movb	%al, 1(%r14,%rdx)
+	movzbl	10(%rcx,%rdx), %eax
+	movb	$0, 10(%rcx,%rdx)
+	movb	%al, 2(%r14,%rdx)
+	movzbl	11(%rcx,%rdx), %eax
+	movb	$0, 11(%rcx,%rdx)
+	movb	%al, 3(%r14,%rdx)
+	addq	$4, %rdx
+	cmpq	%rdx, %r15
+	jne	10b
+11:
+	movq	56(%rcx), %rdx
+	testq	%rdx, %rdx
+	je	12f
+	movq	%rbx, %rdi
+	xorl	%esi, %esi
+	callq	memset@PLT
+	movq	%r13, %rsi
+	movq	%r12, %rcx
+12:
+	movq	8(%rcx), %rdi
+	xorl	%eax, %eax
+	cmpb	$0, (%rcx)
+	movq	24(%rcx), %rdx
+	movq	$1, (%rcx)
+	movq	%r14, 8(%rcx)
+	movq	%r15, 16(%rcx)
+	movq	%rsi, 24(%rcx)
+	xorps	%xmm0, %xmm0
+	movups	%xmm0, 32(%rcx)
+	movups	%xmm0, 48(%rcx)
+	je	2b
+	testq	%rdx, %rdx
+	jne	19f
+	jmp	2b
+13:
+	movq	16(%rdi), %rsi
+	movq	%rcx, %rax
+	subq	%rsi, %rax
+	cmpq	%rax, %r14
+	jbe	1b
+	movb	$1, %al
+	addq	%rsi, %r14
+	jb	2b
+	js	2b
+	movq	%rdi, %r15
+	testq	%rcx, %rcx
+	je	22f
+	movq	(%rbx), %rdi
+	movl	$1, %ecx
+	movq	%r14, %rdx
+	callq	rattle_realloc@PLT
+	jmp	23f
+14:
+	andq	$-4, %r8
+	negq	%r8
+	movl	$2, %esi
+	.p2align	4
+15:
+	leaq	-1(%rsi), %r9
+	movzbl	-2(%rax,%rsi), %r10d
+	movb	%r10b, 14(%rsp,%rsi)
+	movq	%r9, 64(%rsp)
+	movzbl	-1(%rax,%rsi), %r9d
+	movb	%r9b, 15(%rsp,%rsi)
+	movq	%rsi, 64(%rsp)
+	leaq	1(%rsi), %r9
+	movzbl	(%rax,%rsi), %r10d
+	movb	%r10b, 16(%rsp,%rsi)
+	movq	%r9, 64(%rsp)
+	leaq	2(%rsi), %r9
+	movzbl	1(%rax,%rsi), %r10d
+	movb	%r10b, 17(%rsp,%rsi)
+	movq	%r9, 64(%rsp)
+	leaq	(%r8,%rsi), %r9
+	addq	$4, %r9
+	addq	$4, %rsi
+	cmpq	$2, %r9
+	jne	15b
+	testq	%rdx, %rdx
+	je	18f
+	addq	$-2, %rsi
+16:
+	incq	%rsi
+	.p2align	4
+17:
+	movzbl	-1(%rax,%rsi), %r8d
+	movb	%r8b, 15(%rsp,%rsi)
+	movq	%rsi, 64(%rsp)
+	incq	%rsi
+	decq	%rdx
+	jne	17b
+18:
+	leaq	8(%rdi), %rbx
+	testq	%rcx, %rcx
+	je	20f
+	movq	%rdi, %r14
+	movq	%rax, %rdi
+	callq	rattle_dealloc@PLT
+	movq	8(%r14), %rdi
+	movq	24(%r14), %rax
+	cmpb	$0, (%r14)
+	movq	64(%rsp), %rcx
+	movq	%rcx, 128(%rsp)
+	movaps	16(%rsp), %xmm0
+	movaps	32(%rsp), %xmm1
+	movaps	48(%rsp), %xmm2
+	movaps	%xmm2, 112(%rsp)
+	movaps	%xmm1, 96(%rsp)
+	movaps	%xmm0, 80(%rsp)
+	movq	$0, (%r14)
+	movq	128(%rsp), %rcx
+	movq	%rcx, 48(%rbx)
+	movaps	80(%rsp), %xmm0
+	movaps	96(%rsp), %xmm1
+	movaps	112(%rsp), %xmm2
+	movups	%xmm2, 32(%rbx)
+	movups	%xmm1, 16(%rbx)
+	movups	%xmm0, (%rbx)
+	je	1b
+	testq	%rax, %rax
+	je	1b
+19:
+	callq	rattle_dealloc@PLT
+	jmp	1b
+20:
+	movq	64(%rsp), %rax
+	movq	%rax, 128(%rsp)
+	movaps	16(%rsp), %xmm0
+	movaps	32(%rsp), %xmm1
+	movaps	48(%rsp), %xmm2
+	movaps	%xmm2, 112(%rsp)
+	movaps	%xmm1, 96(%rsp)
+	movaps	%xmm0, 80(%rsp)
+	movq	$0, (%rdi)
+	movq	128(%rsp), %rax
+	movq	%rax, 48(%rbx)
+	movaps	80(%rsp), %xmm0
+	movaps	96(%rsp), %xmm1
+	movaps	112(%rsp), %xmm2
+	movups	%xmm2, 32(%rbx)
+	movups	%xmm1, 16(%rbx)
+	movups	%xmm0, (%rbx)
+	jmp	1b
+21:
+	cmpq	$32, %r15
+	jae	24f
+	xorl	%eax, %eax
+	jmp	26f
+22:
+	movl	$1, %esi
+	movq	%r14, %rdi
+	callq	rattle_alloc@PLT
+23:
+	testb	$1, %al
+	movb	$1, %al
+	je	2b
+	movq	%rdx, 8(%r15)
+	movq	%r14, 24(%r15)
+	jmp	1b
+24:
+	movq	%r15, %rax
+	andq	$-32, %rax
+	xorl	%edx, %edx
+25:
+	movups	8(%rcx,%rdx), %xmm0
+	movups	24(%rcx,%rdx), %xmm1
+	xorps	%xmm2, %xmm2
+	movups	%xmm2, 8(%rcx,%rdx)
+	movups	%xmm2, 24(%rcx,%rdx)
+	movups	%xmm0, (%r14,%rdx)
+	movups	%xmm1, 16(%r14,%rdx)
+	addq	$32, %rdx
+	cmpq	%rdx, %rax
+	jne	25b
+	cmpq	%rax, %r15
+	je	11b
+	testb	$24, %r15b
+	je	7b
+26:
+	movq	%rax, %rdx
+	movq	%r15, %rax
+	andq	$-8, %rax
+27:
+	movq	(%rbx,%rdx), %rdi
+	movq	$0, (%rbx,%rdx)
+	movq	%rdi, (%r14,%rdx)
+	addq	$8, %rdx
+	cmpq	%rdx, %rax
+	jne	27b
+	cmpq	%rax, %r15
+	je	11b
+	jmp	7b
+28:
+	.size	"smallvec::small_vec::SmallVec::grow::<#4c0255fda7f36d01>", 28b-"smallvec::small_vec::SmallVec::grow::<#4c0255fda7f36d01>"
 
 	.text
 	.p2align	4
