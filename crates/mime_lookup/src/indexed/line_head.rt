@@ -35,7 +35,7 @@ pub struct LineHead {
 const LONGEST: usize = 65_535;
 
 /// The later pair of a value begins before this place of it.
-const NEAR: u8 = 16;
+const NEAR: usize = 16;
 
 impl LineHead {
     /// The least length of a content that it doesn't refuse for its length.
@@ -86,22 +86,28 @@ fn later_pair(range: u32, value: &[u8], mask: Option<&[u8]>) -> u8 {
 }
 
 /// The last pair of a value, from its third byte on and near its front, that has the fewest common bytes.
+// Not inlined: few lines ask for it, and it would take the registers of the others' loop.
+#[inline(never)]
 fn rarest_pair(value: &[u8]) -> u8 {
-    let (mut rarest, mut least) = (0, 2);
-    let mut here = is_common(byte_at(value, 2));
-    for place in 2..NEAR {
-        let next = usize::from(place) + 1;
-        if next >= value.len() {
-            return rarest;
+    let last = value.len().saturating_sub(1).min(NEAR);
+    // The place of the uncommon byte that was met last, or 0.
+    let mut met = 0;
+    let mut rarest = last.saturating_sub(1);
+    let mut place = last + 1;
+    while place > 2 {
+        place -= 1;
+        if is_common(value[place]) {
+            continue;
         }
-        let after = is_common(value[next]);
-        let common = u8::from(here) + u8::from(after);
-        if common <= least {
-            (rarest, least) = (place, common);
+        if met == place + 1 {
+            return place as u8;
         }
-        here = after;
+        if met == 0 {
+            rarest = rarest.min(place);
+        }
+        met = place;
     }
-    rarest
+    rarest as u8
 }
 
 /// Whether a byte is one of those that most contents have many of: small letters, spaces and zeros.
