@@ -11,6 +11,7 @@ pub mod OwnedSums
 pub mod LineBytes
 pub mod Owners
 pub mod NoOwners
+pub mod GrownTables
 pub mod LongerContents
 pub mod TriedLines
 pub mod IndexNodes

@@ -60,6 +60,25 @@ pub record OwnsLines (tables : Tables) (owner : ℕ → ℕ) (lines low : ℕ) :
   -- They are none before `low`.
   pub late : (i : ℕ) → i < length tables.others.items → low ≤ slice_index tables.others.items i
 
+-- Of lines with these heads those from `low` on are put into tables, or to the others.
+pub record HaveLines (tables : Tables) (heads : List LineHead) (low : ℕ) : Type 0 where
+  pub most : length tables.places.items ≤ 256
+  -- There are no more tables than lines from `low` on.
+  pub few : length tables.places.items + low ≤ length heads
+  pub found : AreTables tables heads low
+  pub owned : (owner : ℕ → ℕ) × OwnsLines tables owner (length heads) low
+
+-- Tables may have one more, which names no line.
+pub record GrowTables (old new : Tables) : Type 0 where
+  pub more : length old.places.items ≤ length new.places.items
+  pub one : length new.places.items ≤ length old.places.items + 1
+  pub most : length old.places.items ≤ 256 → length new.places.items ≤ 256
+  pub slots : length new.firsts.items ≡ length new.places.items * 256
+  pub places : (table : ℕ) → table < length old.places.items → slice_index new.places.items table ≡ slice_index old.places.items table
+  pub firsts : (slot : ℕ) → slice_index new.firsts.items slot ≡ slice_index old.firsts.items slot
+  pub nexts : new.nexts.items ≡ old.nexts.items
+  pub others : new.others.items ≡ old.others.items
+
 -- The lines that one leads to are all of one owner.
 pub record LeadsOwn (nexts : List ℕ) (owner : ℕ → ℕ) (this link : ℕ) : Type 0 where
   -- The one that is named is.

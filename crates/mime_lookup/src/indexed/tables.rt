@@ -5,18 +5,24 @@
 //! next. Only the lines of the bytes that stand in a content are asked of it, and all other lines by themselves. A line
 //! is named by its number and one more, so that 0 names none.
 
-ghost use Rattle.std.specs.Prelude.{◌≡◌, ℕ, ◌+◌, ◌*◌, ◌<◌, ◌≤◌, length, slice_index, slice_set, IfOk, IfSome};
-ghost use Rattle.mime_lookup.specs.Tables.{AreTables, IsSlot, OwnsLines};
+ghost use Rattle.std.specs.Prelude.{◌≡◌, ℕ, [], ◌∷◌, ◌++◌, ◌+◌, ◌*◌, ◌<◌, ◌≤◌, length, slice_index, slice_set, IfOk, IfSome, OnOk};
+ghost use Rattle.mime_lookup.specs.Tables.{AreTables, GrowTables, HaveLines, IsSlot, OwnsLines};
 
 use crate::indexed::line_head::LineHead;
 use mime_base::OutOfMemory;
 use std::alloc::Global;
 
-/// The most tables that are made: a table takes half a kilobyte, and real lines have some forty places.
+/// The most tables that are made: a table takes half a kilobyte.
 const MOST: usize = 256;
+
+/// Room is made for so many tables: real lines have some forty places.
+const USUAL: usize = 64;
 
 /// The number of a place's table is noted by the place's remainder: few real lines have places that share one.
 const REMAINDERS: usize = 256;
+
+/// The number of no table.
+const NONE: usize = MOST;
 
 /// Lines from this one on are asked by themselves.
 const LAST: usize = 65_535;
@@ -41,64 +47,122 @@ pub fn tables_of(alloc: Global, heads: &[LineHead]) -> Result<Tables, OutOfMemor
     // None is in two tables, nor in one and asked by itself.
     ensures owned { IfOk result (λ tables. (owner : ℕ → ℕ) × OwnsLines tables owner (length heads.now) 0) }
 {
-    // Of each line first the number of its table, which spares another search for it.
-    let mut nexts = vec![in alloc; 0; heads.len()]?;
-    let places = places_of(alloc, heads, &mut nexts)?;
-    let mut firsts = vec![in alloc; 0; places.len() * 256]?;
-    let mut others = Vec::new(alloc);
+    let room = heads.len().min(USUAL);
+    let mut tables = Tables {
+        places: Vec::with_capacity(alloc, room)?,
+        firsts: Vec::with_capacity(alloc, room * 256)?,
+        nexts: vec![in alloc; 0; heads.len()]?,
+        others: Vec::new(alloc),
+    };
+    let mut noted = [NONE as u16; REMAINDERS];
     let mut line = heads.len();
     while line > 0 {
         line -= 1;
-        match slot_of(&heads[line], line, &places, nexts[line]) {
-            Some(slot) => link(&mut firsts, &mut nexts, slot, line),
-            None => others.push(line)?,
-        }
+        put(&mut tables, &mut noted, heads, line)?;
     }
-    Ok(Tables {
-        places,
-        firsts,
-        nexts,
-        others,
-    })
+    Ok(tables)
 }
 
-/// The places of lines that have one place, each once, up to as many as there are tables; and of each line the number
-/// of its table.
-fn places_of(
-    alloc: Global,
-    heads: &[LineHead],
-    numbers: &mut Vec<u16>,
-) -> Result<Vec<u32>, OutOfMemory>
-    requires size { length numbers.old.items ≡ length heads.now }
-    ensures most { IfOk result (λ places. length places.items ≤ 256) }
-    ensures few { IfOk result (λ places. length places.items ≤ length heads.now) }
-    ensures size { length numbers.new.items ≡ length heads.now }
-{
-    let mut places = Vec::new(alloc);
-    let mut noted = [0; REMAINDERS];
-    for line in 0..heads.len() {
-        let head = &heads[line];
-        if head.range == 1 && head.size > 0 {
-            let remainder = head.start as usize % REMAINDERS;
-            let table = table_at(&places, usize::from(noted[remainder]), head.start);
-            noted[remainder] = table as u16;
-            numbers[line] = table as u16;
-            if table == places.len() && table < MOST {
-                places.push(head.start)?;
-            }
-        }
-    }
-    Ok(places)
-}
-
-/// The number of a table of a place, this one if it is, else the number of tables.
+/// Puts a line into its table, before the lines after it, which are put already, or to the others.
 #[inline]
-fn table_at(places: &[u32], noted: usize, place: u32) -> usize
+fn put(
+    tables: &mut Tables,
+    noted: &mut [u16; REMAINDERS],
+    heads: &[LineHead],
+    line: usize,
+) -> Result<(), OutOfMemory>
+    requires inside { line < length heads.now }
+    requires had { HaveLines tables.old heads.now (line + 1) }
+    ensures has { OnOk result (HaveLines tables.new heads.now line) }
+{
+    match slot_of(tables, noted, &heads[line], line)? {
+        Some(slot) => link(&mut tables.firsts, &mut tables.nexts, slot, line),
+        None => tables.others.push(line)?,
+    }
+    Ok(())
+}
+
+/// Where in the tables the first line of the place and the byte of a line is named, if the line has a table.
+#[inline]
+fn slot_of(
+    tables: &mut Tables,
+    noted: &mut [u16; REMAINDERS],
+    head: &LineHead,
+    line: usize,
+) -> Result<Option<usize>, OutOfMemory>
+    requires most { length tables.old.places.items ≤ 256 }
+    requires slots { length tables.old.firsts.items ≡ length tables.old.places.items * 256 }
+    ensures grow { OnOk result (GrowTables tables.old tables.new) }
+    ensures slot { IfOk result (λ found. IfSome found (λ slot. IsSlot tables.new.places.items slot head.now)) }
+    ensures inside { IfOk result (λ found. IfSome found (λ slot. slot < length tables.new.places.items * 256)) }
+    ensures number { IfOk result (λ found. IfSome found (λ slot. line < 65535)) }
+{
+    if head.range != 1 || head.size == 0 || line >= LAST {
+        return Ok(None);
+    }
+    let table = table_of(tables, noted, head.start)?;
+    if table == tables.places.len() {
+        return Ok(None);
+    }
+    Ok(Some(table * 256 + usize::from(head.first)))
+}
+
+/// The number of the table of a place, a new one if it has none and there are few; else the number of tables.
+#[inline]
+fn table_of(
+    tables: &mut Tables,
+    noted: &mut [u16; REMAINDERS],
+    place: u32,
+) -> Result<usize, OutOfMemory>
+    requires most { length tables.old.places.items ≤ 256 }
+    requires slots { length tables.old.firsts.items ≡ length tables.old.places.items * 256 }
+    ensures grow { OnOk result (GrowTables tables.old tables.new) }
+    ensures within { IfOk result (λ table. table ≤ length tables.new.places.items) }
+    ensures place { IfOk result (λ table. table < length tables.new.places.items
+        → slice_index tables.new.places.items table ≡ place) }
+{
+    let last = usize::from(noted[place as usize % REMAINDERS]);
+    if last < tables.places.len() && tables.places[last] == place {
+        return Ok(last);
+    }
+    other_table(tables, noted, place)
+}
+
+/// The same where of the place's remainder no table is noted, or another place's.
+// Not inlined: it would take the registers of the loop that most lines go through without it.
+#[inline(never)]
+fn other_table(
+    tables: &mut Tables,
+    noted: &mut [u16; REMAINDERS],
+    place: u32,
+) -> Result<usize, OutOfMemory>
+    requires most { length tables.old.places.items ≤ 256 }
+    requires slots { length tables.old.firsts.items ≡ length tables.old.places.items * 256 }
+    ensures grow { OnOk result (GrowTables tables.old tables.new) }
+    ensures within { IfOk result (λ table. table ≤ length tables.new.places.items) }
+    ensures place { IfOk result (λ table. table < length tables.new.places.items
+        → slice_index tables.new.places.items table ≡ place) }
+{
+    let remainder = place as usize % REMAINDERS;
+    let table = table_at(&tables.places, usize::from(noted[remainder]), place);
+    if table == MOST {
+        return Ok(table);
+    }
+    noted[remainder] = table as u16;
+    if table == tables.places.len() {
+        add_table(tables, place)?;
+    }
+    Ok(table)
+}
+
+/// The number of the table of a place, else the number of tables; `last` is the one noted of its remainder.
+fn table_at(places: &[u32], last: usize, place: u32) -> usize
     ensures within { result ≤ length places.now }
     ensures place { result < length places.now → slice_index places.now result ≡ place }
 {
-    if noted < places.len() && places[noted] == place {
-        return noted;
+    // Then no place of this remainder has a table.
+    if last == NONE {
+        return places.len();
     }
     for table in 0..places.len() {
         if places[table] == place {
@@ -108,22 +172,16 @@ fn table_at(places: &[u32], noted: usize, place: u32) -> usize
     places.len()
 }
 
-/// Where in the tables the first line of the place and the byte of a line is named, if the line has that table.
-#[inline]
-fn slot_of(head: &LineHead, line: usize, places: &[u32], table: u16) -> Option<usize>
-    requires { length places.now ≤ 256 }
-    ensures slot { IfSome result (λ slot. IsSlot places.now slot head.now) }
-    ensures inside { IfSome result (λ slot. slot < length places.now * 256) }
-    ensures number { IfSome result (λ slot. line < 65535) }
+/// Adds a table of a place, which names no line.
+fn add_table(tables: &mut Tables, place: u32) -> Result<(), OutOfMemory>
+    requires most { length tables.old.places.items < 256 }
+    requires slots { length tables.old.firsts.items ≡ length tables.old.places.items * 256 }
+    ensures grow { OnOk result (GrowTables tables.old tables.new) }
+    ensures places { OnOk result (tables.new.places.items ≡ tables.old.places.items ++ place ∷ []) }
 {
-    let table = usize::from(table);
-    if head.range != 1 || head.size == 0 || line >= LAST || table >= places.len() {
-        return None;
-    }
-    if places[table] != head.start {
-        return None;
-    }
-    Some(table * 256 + usize::from(head.first))
+    tables.places.push(place)?;
+    tables.firsts.resize(tables.places.len() * 256, 0)?;
+    Ok(())
 }
 
 /// Puts a line before the first one of its slot.
