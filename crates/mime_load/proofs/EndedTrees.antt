@@ -52,12 +52,12 @@ leaf_fits ending (node character below rest) ended some =
     (λ more. leaf_fits ending rest ended.1 more)
 
 -- what holds of each of two lists
-all_left : {X : Type 0} (P : X → Type 0) (xs ys : List X) → All P (xs ++ ys) → All P xs
+pub all_left : {X : Type 0} (P : X → Type 0) (xs ys : List X) → All P (xs ++ ys) → All P xs
 all_left P xs ys all k d within =
     subst P (get_or_append_left xs ys d k within) (all k d (omega (arith, within, length-append xs ys)))
 
 -- and of the second
-all_right : {X : Type 0} (P : X → Type 0) (xs ys : List X) → All P (xs ++ ys) → All P ys
+pub all_right : {X : Type 0} (P : X → Type 0) (xs ys : List X) → All P (xs ++ ys) → All P ys
 all_right P xs ys all k d within =
     subst P (get_or-append-add xs ys k d) (all (length xs + k) d (omega (arith, within, length-append xs ys)))
 

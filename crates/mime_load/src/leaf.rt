@@ -2,10 +2,10 @@
 //!
 //! The bytes of an ending lie scattered in the tree, so the patterns of all rules are written one after the other, into one text.
 
-ghost use Rattle.std.specs.Prelude.{◌≡◌, ◌++◌, ◌∷◌, ◌≤◌, [], length, reverse, IfErr, OnOk, option_map};
-ghost use Rattle.std.specs.List.{slice_get};
+ghost use Rattle.std.specs.Prelude.{◌≡◌, ◌++◌, ◌∷◌, ◌≤◌, [], length, map, reverse, IfErr, OnOk, option_map};
+ghost use Rattle.std.specs.List.{All, slice_get};
 ghost use Rattle.mime_load.specs.Lent.{plain_leaf};
-ghost use Rattle.mime_load.specs.Leaves.{LiesIn, entry_pattern};
+ghost use Rattle.mime_load.specs.Leaves.{LiesIn, entry_pattern, plain_entry};
 
 use crate::unread::Unread;
 use std::alloc::Global;
@@ -24,19 +24,28 @@ pub struct LeafRule<'p, 'a> {
     pub cased: bool,
 }
 
-/// A rule whose pattern lies among those of all.
+/// A rule of the suffix tree whose pattern lies in the text of [`LeafParts`].
 #[derive(Clone, Copy, Debug)]
 pub struct LeafEntry<'a> {
     /// The type that the rule gives.
-    kind: &'a [u8],
-    /// Where its pattern begins.
-    start: usize,
+    pub kind: &'a [u8],
+    /// Where in the text its pattern begins.
+    pub start: usize,
     /// How long its pattern is.
-    length: u8,
-    /// Its weight.
-    weight: u8,
+    pub length: u8,
+    /// Its weight, from 0 to 255.
+    pub weight: u8,
     /// Whether it is case-sensitive.
-    cased: bool,
+    pub cased: bool,
+}
+
+/// What [`Leaves`] are made of: the rules, and one text that the pattern of each lies in. This project's own.
+#[derive(Debug, Drop)]
+pub struct LeafParts<'a> {
+    /// The rules, in their order.
+    pub entries: Vec<LeafEntry<'a>>,
+    /// Their patterns.
+    pub patterns: Vec<u8>,
 }
 
 /// Rules of the suffix tree, in their order. This project's own.
@@ -100,6 +109,17 @@ impl<'a> Leaves<'a> {
             }),
             None => None,
         }
+    }
+
+    /// The rules and their patterns, for one that keeps them. It copies nothing.
+    pub fn into_parts(self) -> LeafParts<'a>
+        // The rules are these.
+        ensures rules { map (plain_entry result.patterns.items) result.entries.items ≡ self.entry }
+        // The pattern of each lies whole in the text.
+        ensures lie { All (LiesIn result.patterns.items) result.entries.items }
+    {
+        let Leaves { entries, patterns } = self;
+        LeafParts { entries, patterns }
     }
 
     /// Puts a rule after them.

@@ -44,7 +44,7 @@ mod unread;
 pub use extent::magic_extent;
 pub use holding::{behind_first, first_line_matches};
 pub use icon_lists::{IconLists, read_icons};
-pub use leaf::{LeafRule, Leaves};
+pub use leaf::{LeafEntry, LeafParts, LeafRule, Leaves};
 pub use line::LentLine;
 pub use lists::Lists;
 pub use magic::LentMagic;

@@ -1,5 +1,5 @@
 -- The glob rules of a cache that were read back, and the types of names by them.
-use Rattle.std.specs.Prelude.{◌≡◌, ℕ, List, map, length}
+use Rattle.std.specs.Prelude.{◌≡◌, ℕ, List, ◌++◌, map, length}
 use Rattle.std.specs.Borrow.{Bor}
 use Rattle.std.specs.Option.{option_map_or}
 use Rattle.mime_base.specs.Cache.Bytes.{Stands}
@@ -14,7 +14,7 @@ use Rattle.mime_lookup.specs.NameMap.{IsNameMap, value_in}
 use Rattle.mime_lookup.specs.NameTypes.{types_for}
 use Rattle.mime_lookup.specs.Spelling.{SpellsGlobs}
 use Rattle.mime_lookup.specs.declared.name_map.NameMap.{NameMap}
-use Rattle.mime_names.specs.Index.{PlainIndex}
+use Rattle.mime_names.specs.Index.{PlainIndex, PlainRules}
 use Rattle.mime_view.specs.declared.name_hits.NameHits.{NameHits}
 use Rattle.mime_view.specs.declared.name_hits.Which.{Which}
 
@@ -30,6 +30,15 @@ AreTargets aliases targets = (kind : List ℕ) → resolved aliases kind ≡ tar
 abbrev pub target_rule : NameMap (Bor (List ℕ)) → GlobRule → GlobRule
 target_rule targets rule =
     record { weight = rule.weight; kind = target_in targets rule.kind; pattern = rule.pattern; cased = rule.cased }
+
+-- Rules that an index is to be made of, and more after them, which give their types by the targets that a map has.
+pub record AddsRules (targets : NameMap (Bor (List ℕ))) (more : List GlobRule) (old new : PlainRules) : Type 0 where
+  -- They give their types after one alias step.
+  pub given : new.given ≡ old.given ++ map (target_rule targets) more
+  -- They are these.
+  pub own : new.own ≡ old.own ++ more
+  -- The text of patterns is the same.
+  pub patterns : new.patterns ≡ old.patterns
 
 -- Targets are those of the aliases that a cache spells.
 pub record AreTargetsOf (c : List ℕ) (targets : NameMap (Bor (List ℕ))) : Type 0 where

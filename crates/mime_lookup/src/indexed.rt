@@ -82,7 +82,7 @@ impl<'a> IndexedDatabase<'a> {
         let parents = places_of(alloc, &database.parents)?;
         database_keeps_limits(database);
         let rules = lent_rules(alloc, &database.rules, &aliases)?;
-        let names = NameIndex::of_rules(alloc, rules)?;
+        let names = NameIndex::new(alloc, rules)?;
         Ok(IndexedDatabase {
             database,
             names,

@@ -80,6 +80,8 @@ pub fn placed_pairs<'a>(
 }
 
 /// A type after one alias step.
+// Part of each of its callers: most types are no alias, which takes less to see than a call.
+#[inline(always)]
 pub fn unalias_at<'a>(aliases: &Places<'a>, kind: &'a [u8]) -> &'a [u8]
     // The places are those of all pairs.
     requires indexed { IsPlaced aliases.now }

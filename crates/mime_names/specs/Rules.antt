@@ -1,39 +1,32 @@
--- Rules as an index has them: their patterns stand in one text.
-use Rattle.std.specs.Prelude.{◌≡◌, ℕ, ◌+◌, ◌≤◌, Bool, true, false, not, ◌&&◌, List, ◌++◌, length, take, drop, filter}
+-- Rules as an index has them: a pattern is lent, or stands in the text of all.
+use Rattle.std.specs.Prelude.{◌≡◌, ◌+◌, ◌<◌, ℕ, Bool, true, false, not, ◌&&◌, List, filter, get_or, length}
 use Rattle.std.specs.Borrow.{Bor}
 use Rattle.mime_base.specs.Kept.{FitsRank, class_of, rank_of_rule}
 use Rattle.mime_base.specs.Matching.Matches.{rule_matches}
 use Rattle.mime_base.specs.declared.database.rule.GlobRule.{GlobRule}
 use Rattle.mime_base.specs.declared.kept.class.Class.{Class}
 use Rattle.mime_base.specs.declared.kept.class.Class.TheVariants.{Literal, Suffix, Full}
+use Rattle.mime_names.specs.Patterns.{IsWithin, pattern_in}
 use Rattle.mime_names.specs.declared.indexed_rule.IndexedRule.{IndexedRule}
 use Rattle.mime_names.specs.declared.named_rule.NamedRule.{NamedRule}
 
 -- the plain value of a rule that is lent
-abbrev pub plain_named : NamedRule → GlobRule
-plain_named rule = record { weight = rule.weight; kind = rule.kind.now; pattern = rule.pattern.now; cased = rule.cased }
+abbrev pub plain_named : List ℕ → NamedRule → GlobRule
+plain_named patterns rule = record { weight = rule.weight; kind = rule.kind.now; pattern = pattern_in patterns rule.pattern; cased = rule.cased }
 
 -- the plain value of a rule that is lent, with its own type
-abbrev pub own_named : NamedRule → GlobRule
-own_named rule = record { weight = rule.weight; kind = rule.own_kind.now; pattern = rule.pattern.now; cased = rule.cased }
+abbrev pub own_named : List ℕ → NamedRule → GlobRule
+own_named patterns rule = record {
+  weight = rule.weight;
+  kind = rule.own_kind.now;
+  pattern = pattern_in patterns rule.pattern;
+  cased = rule.cased;
+}
 
--- A pattern begins at a place of a text of patterns, to which it is added unless it is there.
-pub record AddsPattern (pattern old new : List ℕ) (start : ℕ) : Type 0 where
-  -- What is added.
-  pub more : List ℕ
-  -- It comes after all patterns.
-  pub grows : new ≡ old ++ more
-  -- The pattern begins at the place.
-  pub stands : take (length pattern) (drop start new) ≡ pattern
-  -- It ends within the text.
-  pub within : start + length pattern ≤ length new
-
--- What is found of a rule that is lent, whose pattern is to begin at a place.
-pub record IsEntryOf (named : NamedRule) (start : ℕ) (rule : IndexedRule) : Type 0 where
-  -- Its pattern begins there.
-  pub begins : rule.start ≡ start
-  -- Its pattern is as long as the rule's.
-  pub size : rule.length ≡ length named.pattern.now
+-- What is found of a rule that is lent.
+pub record IsEntryOf (patterns : List ℕ) (named : NamedRule) (rule : IndexedRule) : Type 0 where
+  -- Its pattern stands where the rule's does.
+  pub pattern : rule.pattern ≡ named.pattern
   -- It has the rule's weight.
   pub weight : rule.weight ≡ named.weight
   -- It gives the rule's type.
@@ -43,13 +36,17 @@ pub record IsEntryOf (named : NamedRule) (start : ℕ) (rule : IndexedRule) : Ty
   -- It is case-sensitive where the rule is.
   pub cased : rule.cased ≡ named.cased
   -- Its class is that of the rule's pattern.
-  pub class : rule.class ≡ class_of named.pattern.now
+  pub class : rule.class ≡ class_of (pattern_in patterns named.pattern)
   -- Its rank is the rule's.
-  pub rank : rule.rank ≡ rank_of_rule (plain_named named)
+  pub rank : rule.rank ≡ rank_of_rule (plain_named patterns named)
 
--- a rule's pattern, where the patterns of all stand
+-- a rule's pattern, where the patterns that aren't lent stand
 abbrev pub pattern_of : List ℕ → IndexedRule → List ℕ
-pattern_of patterns rule = take rule.length (drop rule.start patterns)
+pattern_of patterns rule = pattern_in patterns rule.pattern
+
+-- a rule has this case and this pattern
+abbrev pub HasPattern : List ℕ → Bool → List ℕ → IndexedRule → Type 0
+HasPattern patterns cased pattern rule = (rule.cased ≡ cased) × (pattern_of patterns rule ≡ pattern)
 
 -- the plain value of a rule of an index
 abbrev pub plain : List ℕ → IndexedRule → GlobRule
@@ -61,7 +58,7 @@ own_plain patterns rule = record { weight = rule.weight; kind = rule.own_kind.no
 
 -- the pattern is there, and class and rank are the rule's own, and have their room
 pub record IsIndexedRule (patterns : List ℕ) (rule : IndexedRule) : Type 0 where
-  pub within : rule.start + rule.length ≤ length patterns
+  pub within : IsWithin patterns rule.pattern
   pub class : rule.class ≡ class_of (pattern_of patterns rule)
   pub rank : rule.rank ≡ rank_of_rule (plain patterns rule)
   pub fits : FitsRank (plain patterns rule)
@@ -107,6 +104,15 @@ offer_of patterns rule = (rank_of_rule (plain patterns rule), rule.kind)
 -- whether a rule matches a name
 abbrev pub is_match : List ℕ → List ℕ → IndexedRule → Bool
 is_match patterns name rule = rule_matches (pattern_of patterns rule) rule.cased name
+
+-- Of some rules those that repeat the one before them are known.
+pub record AreRepeats (patterns : List ℕ) (rules : List IndexedRule) : Type 0 where
+  -- The first rule repeats none.
+  pub first : (rule : IndexedRule) → 0 < length rules → rule ≡ get_or rules 0 rule → rule.repeats ≡ false
+  -- One that does matches what the rule before it matches.
+  pub others :
+      (place : ℕ) (before rule : IndexedRule) (name : List ℕ) → place + 1 < length rules → before ≡ get_or rules place before →
+      rule ≡ get_or rules (place + 1) rule → rule.repeats ≡ true → is_match patterns name before ≡ true → is_match patterns name rule ≡ true
 
 -- the rules of a part that match a name
 abbrev pub hits_of : List ℕ → (IndexedRule → Bool) → List IndexedRule → List ℕ → List IndexedRule

@@ -1,28 +1,25 @@
 //! An index over glob rules.
 
-ghost use Rattle.std.specs.Prelude.{◌≡◌, not, filter, length, map, IfOk};
-ghost use Rattle.std.specs.List.{All};
-ghost use Rattle.mime_base.specs.Kept.{FitsRank};
+ghost use Rattle.std.specs.Prelude.{◌≡◌, not, filter, length, IfOk};
 ghost use Rattle.mime_names.specs.Near.{is_mostly_general};
-ghost use Rattle.mime_names.specs.Rules.{of_texts, own_named, plain_named};
+ghost use Rattle.mime_names.specs.Rules.{of_texts};
 
 use crate::indexed_rule::IndexedRule;
 use crate::indexed_rules::IndexedRules;
 use crate::keys::{KeyTable, key_table};
-use crate::named_rule::NamedRule;
 use mime_base::{Class, OutOfMemory};
 use std::alloc::Global;
 use std::marker::Model;
 
 /// An index over glob rules, whose types are lent. This project's own.
 ///
-/// For each rule it has its pattern and some 96 bytes, and for each row of its tree 256 bytes: at most a row a rule, and those of
-/// the last byte of all patterns.
+/// For each rule it has some 96 bytes, and for each row of its tree 256 bytes: at most a row a rule, and those of the last byte of all
+/// patterns. The patterns themselves are lent, or stand in the text that it was given.
 #[derive(Drop)]
 pub struct NameIndex<'a> {
     /// The rules.
     pub(crate) rules: Vec<IndexedRule<'a>>,
-    /// Their patterns.
+    /// The text of patterns that aren't lent.
     pub(crate) patterns: Vec<u8>,
     /// The keys by which names find them.
     pub(crate) table: KeyTable,
@@ -42,29 +39,11 @@ impl<'a> Model for NameIndex<'a> {
 
 impl<'a> NameIndex<'a> {
     /// The index over some rules. Its time and memory grow with their number and their lengths.
-    pub fn new<'p>(alloc: Global, rules: &[NamedRule<'p, 'a>]) -> Result<NameIndex<'a>, OutOfMemory>
-        // The rules keep the limits of ranks.
-        requires { All FitsRank (map plain_named rules.now) }
-        // It is the index over these rules.
-        ensures { IfOk result (λ index. index ≡ record { given = map plain_named rules.now; own = map own_named rules.now }) }
-    {
-        let mut all = IndexedRules::new(alloc, rules.len())?;
-        for place in 0..rules.len() {
-            all = all.with(rules[place])?;
-        }
-        NameIndex::of_rules(alloc, all)
-    }
-
-    /// The index over these rules.
-    pub fn of_rules(alloc: Global, rules: IndexedRules<'a>) -> Result<NameIndex<'a>, OutOfMemory>
+    pub fn new(alloc: Global, rules: IndexedRules<'a>) -> Result<NameIndex<'a>, OutOfMemory>
         // It is the index over just these.
-        ensures { IfOk result (λ index. index ≡ rules.entry) }
+        ensures { IfOk result (λ index. index ≡ record { given = rules.entry.given; own = rules.entry.own }) }
     {
-        let IndexedRules {
-            rules,
-            patterns,
-            ..
-        } = rules;
+        let IndexedRules { rules, patterns } = rules;
         let table = key_table(alloc, &patterns, &rules)?;
         let general = count_general(&rules);
         Ok(NameIndex {

@@ -1,23 +1,22 @@
-//! A rule with what is found of it once, whose pattern stands in a text with those of others.
+//! A rule with what is found of it once.
 
 ghost use Rattle.std.specs.Prelude.{◌≡◌, ◌+◌, ◌*◌, ◌<◌, ◌≤◌, true, ℕ, List, ◌∷◌, get_or, length};
 ghost use Rattle.mime_base.specs.Matching.Matches.{rule_matches};
 ghost use Rattle.mime_names.specs.Rules.{IsIndexedRule, is_match, of_texts, pattern_of};
 
 use crate::ending::ends_so;
+use crate::pattern_text::{PatternText, bytes_of};
 use mime_base::{Class, Meter, glob_matches};
 
-/// A rule with its class and its rank. Its pattern stands in a text with those of all others.
+/// A rule with its class and its rank.
 #[derive(Debug, Drop)]
 pub struct IndexedRule<'a> {
     /// The type that the rule gives.
     pub kind: &'a [u8],
     /// The type that the rule itself has, which may be an alias of that.
     pub own_kind: &'a [u8],
-    /// Where its pattern begins.
-    pub start: usize,
-    /// How long its pattern is.
-    pub length: usize,
+    /// Its pattern.
+    pub pattern: PatternText<'a>,
     /// Its rank: of two rules that match, the one that is preferred has the greater.
     pub rank: u32,
     /// Its weight.
@@ -26,6 +25,8 @@ pub struct IndexedRule<'a> {
     pub cased: bool,
     /// The class of its pattern.
     pub class: Class,
+    /// Whether the rule before it has its pattern, and is case-sensitive as it is: then it matches what that one matches.
+    pub repeats: bool,
 }
 
 /// The rule at a place.
@@ -41,13 +42,13 @@ pub fn rule_at<'a, 'b>(rules: &'b [IndexedRule<'a>], place: usize) -> &'b Indexe
 
 /// A rule's pattern.
 #[inline]
-pub fn pattern_of<'b>(patterns: &'b [u8], rule: &IndexedRule<'_>) -> &'b [u8]
-    // It is there.
+pub fn pattern_of<'b>(patterns: &'b [u8], rule: &IndexedRule<'b>) -> &'b [u8]
+    // It is lent, or stands in the text.
     requires { IsIndexedRule patterns.now rule.now }
     // It is the rule's own.
     ensures { result.now ≡ pattern_of patterns.now rule.now }
 {
-    &patterns[rule.start..rule.start + rule.length]
+    bytes_of(patterns, rule.pattern)
 }
 
 /// Whether a rule matches a name.

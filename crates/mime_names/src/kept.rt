@@ -7,7 +7,7 @@ ghost use Rattle.mime_names.specs.Index.{held_kinds, held_types, texts_of};
 ghost use Rattle.mime_names.specs.Keys.{Fronts, IsTableOf};
 ghost use Rattle.mime_names.specs.Near.{longest, near_bytes, near_nodes, near_rules, near_texts, rule_bytes, text_bytes};
 ghost use Rattle.mime_names.specs.Places.{ComparesKeys, CountsPlaces, is_text_at};
-ghost use Rattle.mime_names.specs.Rules.{IsIndexedRule, hits_of, is_text_rule, others, plain};
+ghost use Rattle.mime_names.specs.Rules.{AreRepeats, IsIndexedRule, hits_of, is_text_rule, others, plain};
 
 use crate::index::NameIndex;
 use crate::indexed_rule::IndexedRule;
@@ -133,6 +133,7 @@ fn other_kinds<'a>(
     meter: &mut Meter,
 ) -> Result<KeptTypes<'a>, OutOfMemory>
     requires own { All (IsIndexedRule patterns.now) rules.now }
+    requires repeated { AreRepeats patterns.now rules.now }
     requires keyed { IsTableOf table.now patterns.now rules.now }
     ensures kept { IfOk result (λ types. held_kinds types ≡ map (λ rule. rule.kind)
         (of_greatest (λ rule. rank_of_rule (plain patterns.now rule)) (hits_of patterns.now (others patterns.now) rules.now name.now))) }

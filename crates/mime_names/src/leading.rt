@@ -2,7 +2,7 @@
 //!
 //! One pass goes through the places of rules that may match, and keeps the places of those that lead so far at the front of them.
 
-ghost use Rattle.std.specs.Prelude.{◌≡◌, ◌+◌, ◌*◌, ◌<◌, ◌≤◌, ◌∷◌, ◌++◌, [], ℕ, Bool, true, List, get_or, length, map, take, IfOk, IfSome};
+ghost use Rattle.std.specs.Prelude.{◌≡◌, ◌+◌, ◌*◌, ◌<◌, ◌≤◌, ◌∷◌, ◌++◌, [], ℕ, Bool, true, List, get_or, length, map, take, IfOk};
 ghost use Rattle.std.specs.List.{All};
 ghost use Rattle.std.specs.List.Sorted.{IsNonDecreasing};
 ghost use Rattle.std.specs.Borrow.{Bor};
@@ -12,7 +12,7 @@ ghost use Rattle.mime_names.specs.Index.{held_kinds};
 ghost use Rattle.mime_names.specs.Leading.{IsLeader, kinds_at};
 ghost use Rattle.mime_names.specs.Near.{longest, rule_bytes};
 ghost use Rattle.mime_names.specs.Places.{AreNear, ComparesPlaces, is_text_at};
-ghost use Rattle.mime_names.specs.Rules.{IsIndexedRule, hits_of, is_match, of_texts, pattern_of, plain};
+ghost use Rattle.mime_names.specs.Rules.{AreRepeats, IsIndexedRule, hits_of, is_match, of_texts, pattern_of, plain};
 ghost use Rattle.mime_names.specs.declared.indexed_rule.IndexedRule as spec;
 
 use crate::indexed_rule::{IndexedRule, is_match, rule_at};
@@ -40,6 +40,8 @@ pub fn leading_types<'a>(
 ) -> Result<KeptTypes<'a>, OutOfMemory>
     // Each rule has its own pattern and class.
     requires own { All (IsIndexedRule patterns.now) rules.now }
+    // It is known which repeat the one before them.
+    requires repeated { AreRepeats patterns.now rules.now }
     // There is a rule at each place.
     requires below { AreBelow (length rules.now) places.old }
     // The places rise.
@@ -67,6 +69,7 @@ fn move_leading(
     meter: &mut Meter,
 ) -> usize
     requires own { All (IsIndexedRule patterns.now) rules.now }
+    requires repeated { AreRepeats patterns.now rules.now }
     requires below { AreBelow (length rules.now) places.old }
     requires rise { IsNonDecreasing places.old }
     ensures leading { (part : spec.IndexedRule → Bool) → AreNear patterns.now part rules.now name.now places.old → kinds_at rules.now (take result places.new)
@@ -78,14 +81,14 @@ fn move_leading(
         (rule_bytes (length name.now) (longest (map (plain patterns.now) rules.now))) meter.old.bytes meter.new.bytes }
 {
     let mut leader = Leader { rank: 0, count: 0 };
-    let mut matched = None;
+    let mut matched = 0;
     let mut from = 0;
     for near in 0..places.len() {
         let place = places[near];
         if from <= place {
             let rule = rule_at(rules, place);
-            if is_match_after(matched, patterns, rule, name, meter) {
-                matched = Some(rule);
+            if is_match_after(matched, patterns, rule, place, name, meter) {
+                matched = place + 1;
                 leader = offer(places, leader, rule.rank, place);
             }
             from = place + 1;
@@ -94,26 +97,25 @@ fn move_leading(
     leader.count
 }
 
-/// Whether a rule matches a name, where another does: often several types have one pattern.
+/// Whether the rule at a place matches a name, where the last one that does is before this place.
 #[inline(always)]
 fn is_match_after(
-    matched: Option<&IndexedRule<'_>>,
+    matched: usize,
     patterns: &[u8],
     rule: &IndexedRule<'_>,
+    place: usize,
     name: &[u8],
     meter: &mut Meter,
 ) -> bool
     requires own { IsIndexedRule patterns.now rule.now }
-    requires matched { IfSome matched (λ other. is_match patterns.now name.now other.now ≡ true) }
+    requires repeated { rule.now.repeats ≡ true → matched ≡ place → is_match patterns.now name.now rule.now ≡ true }
     ensures exact { result ≡ is_match patterns.now name.now rule.now }
     ensures nodes { meter.new.nodes ≡ meter.old.nodes }
     ensures text_bytes { of_texts rule.now.class ≡ true → meter.new.bytes ≤ meter.old.bytes + length name.now }
     ensures bytes { meter.new.bytes ≤ meter.old.bytes + (length (pattern_of patterns.now rule.now) + 1) * (length name.now + 1) }
 {
-    if let Some(other) = matched {
-        if rule.start == other.start && rule.length == other.length && rule.cased == other.cased {
-            return true;
-        }
+    if rule.repeats && matched == place {
+        return true;
     }
     is_match(patterns, rule, name, meter)
 }

@@ -1,8 +1,10 @@
 //! Glob rules that an index is made of.
 
-/// A glob rule that an index is made of: its types are lent for as long as the index is there, its pattern only while it is made.
+use crate::pattern_text::PatternText;
+
+/// A glob rule that an index is made of. Its types, and its pattern where that is lent, are lent for as long as the index is there.
 #[derive(Clone, Copy, Debug)]
-pub struct NamedRule<'p, 'a> {
+pub struct NamedRule<'a> {
     /// Its weight, from 0 to 255. Of the rules of one class that match, the heaviest are kept.
     pub weight: u8,
     /// The type that the rule gives.
@@ -10,7 +12,7 @@ pub struct NamedRule<'p, 'a> {
     /// The type that the rule itself has, which may be an alias of that.
     pub own_kind: &'a [u8],
     /// The pattern of the names that it matches.
-    pub pattern: &'p [u8],
+    pub pattern: PatternText<'a>,
     /// Whether it is case-sensitive: then the capitals of ASCII differ from the small letters.
     pub cased: bool,
 }

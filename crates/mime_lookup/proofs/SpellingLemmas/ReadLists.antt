@@ -1,7 +1,7 @@
 -- The lists of a cache that were read back are a database that it spells.
 use Rattle.std.proofs.Common.{◌≡◌, ℕ, List, [], map, arith}
 use Rattle.std.specs.List.{All}
-use Rattle.std.proofs.lemmas.List.Elements.{All-map, All-weaker}
+use Rattle.std.proofs.lemmas.List.Elements.{All-weaker}
 use denote.Bor.{Bor}
 use Rattle.mime_base.specs.Database.{PlainDatabase}
 use Rattle.mime_base.specs.Database.Limits.{KeepsLimits}
@@ -29,7 +29,7 @@ listed lists = record {
 
 module _ (c : List ℕ) (lists : NameLists) (stand : AreNameLists c lists) where
   -- their rules keep the limits of ranks
-  ranks : All FitsRank (listed_rules lists)
+  pub ranks : All FitsRank (listed_rules lists)
   ranks = All-weaker KeepsLimits FitsRank (λ rule is. (is.0, omega (arith, is.1))) (listed_rules lists) stand.limits
 
   -- they are spelled
@@ -43,10 +43,6 @@ module _ (c : List ℕ) (lists : NameLists) (stand : AreNameLists c lists) where
     tree = stand.rules.tree_stands;
     globs = stand.rules.globs_stand;
   }
-
-  -- so do these after one alias step
-  pub steps_fit : All FitsRank (map (unaliased_rule (plain_pairs lists.aliases.items)) (listed_rules lists))
-  steps_fit = All-map FitsRank (unaliased_rule (plain_pairs lists.aliases.items)) (listed_rules lists) ranks
 
   -- these are the rules of the cache
   pub rules_of_lists : (index : PlainIndex) → index.given ≡ map (unaliased_rule (plain_pairs lists.aliases.items)) (listed_rules lists)

@@ -1,9 +1,14 @@
 -- The targets of aliases, and rules by them.
-use Rattle.std.proofs.Common.{◌≡◌, ℕ, List, [], ◌∷◌, ◌++◌, map, Option, refl, sym, ap, ap₂, ◌∙◌, append_assoc}
+use Rattle.std.proofs.Common.{◌≡◌, ℕ, ◌<◌, List, [], ◌∷◌, length, map, get_or, Option, refl, sym, ap, ap₂, subst, arith}
+use Rattle.std.specs.List.{All}
 use Rattle.std.specs.Option.{option_map_or}
-use Rattle.std.proofs.lemmas.List.{map-append}
+use Rattle.std.proofs.lemmas.List.{get_or-map, length-map}
 use denote.Bor.{Bor}
+use Rattle.mime_base.specs.Database.Lent.{plain_rule}
+use Rattle.mime_base.specs.Kept.{FitsRank}
+use Rattle.mime_base.specs.declared.database.lent.LentRule.{LentRule}
 use Rattle.mime_base.specs.declared.database.rule.GlobRule.{GlobRule}
+use Rattle.mime_load.specs.Lent.{plain_rules}
 use Rattle.mime_lookup.specs.Indexed.{unaliased_rule}
 use Rattle.mime_lookup.specs.ReadBack.{AreTargets, target_rule}
 use Rattle.mime_lookup.specs.declared.name_map.NameMap.{NameMap}
@@ -21,20 +26,9 @@ rules_by_targets aliases targets are (rule ∷ rules) =
     λ (kind : List ℕ). record { weight = rule.weight; kind = kind; pattern = rule.pattern; cased = rule.cased } in
     ap₂ (λ (x : GlobRule) (xs : List GlobRule). x ∷ xs) (sym (ap type (are rule.kind))) (rules_by_targets aliases targets are rules)
 
--- the rules of three lists, pushed one after another
-pub rules_joined : (targets : NameMap (Bor (List ℕ))) (first leaves last one two all : List GlobRule)
-    → one ≡ map (target_rule targets) first
-    → two ≡ one ++ map (target_rule targets) leaves → all ≡ two ++ map (target_rule targets) last
-    → all ≡ map (target_rule targets) (first ++ (leaves ++ last))
-rules_joined targets first leaves last one two all is_one is_two is_all =
-    let by = target_rule targets in
-    is_all ∙ ap (λ (rules : List GlobRule). rules ++ map by last) (is_two ∙ ap (λ (rules : List GlobRule). rules ++ map by leaves) is_one)
-    ∙ append_assoc (map by first) (map by leaves) (map by last)
-    ∙ ap (λ (rules : List GlobRule). map by first ++ rules) (sym (map-append by leaves last)) ∙ sym (map-append by first (leaves ++ last))
-
--- the rules themselves likewise
-pub owns_joined : (first leaves last one two all : List GlobRule) → one ≡ first → two ≡ one ++ leaves → all ≡ two ++ last
-    → all ≡ first ++ (leaves ++ last)
-owns_joined first leaves last one two all is_one is_two is_all =
-    is_all ∙ ap (λ (rules : List GlobRule). rules ++ last) (is_two ∙ ap (λ (rules : List GlobRule). rules ++ leaves) is_one)
-    ∙ append_assoc first leaves last
+-- each rule of a list keeps the limits of ranks, where all do
+pub rank_fits : (listed : List LentRule) → All FitsRank (plain_rules listed) → (place : ℕ) (d : LentRule) → place < length listed
+    → FitsRank (plain_rule (get_or listed place d))
+rank_fits listed all place d within =
+    subst FitsRank (get_or-map plain_rule listed place d (plain_rule d) within)
+    (all place (plain_rule d) (omega (arith, within, length-map listed plain_rule)))

@@ -120,7 +120,7 @@ impl<'a> IndexedCache<'a> {
         ensures nodes { meter.new.nodes ≤ meter.old.nodes + length self.old / 4 + length self.old / 8 + 5 }
     {
         let lists = read_names(alloc, &self.counted, meter)?;
-        let index = IndexedNames::new(alloc, self.counted.again(), &lists)?;
+        let index = IndexedNames::new(alloc, self.counted.again(), lists)?;
         if !index.is_mostly_general() {
             self.names = Some(Box::new(alloc, index)?);
         }

@@ -9,7 +9,7 @@ ghost use Rattle.mime_lookup.specs.Places.{IsPlaced};
 
 use crate::places::{Places, unalias_at};
 use mime_base::{GlobRule, OutOfMemory};
-use mime_names::{IndexedRules, NamedRule};
+use mime_names::{IndexedRules, NamedRule, PatternText};
 use std::alloc::Global;
 
 /// The rules, which give their types after one alias step.
@@ -27,14 +27,14 @@ pub fn lent_rules<'a>(
     // They are these rules.
     ensures own { IfOk result (λ lent. lent.own ≡ rules.entry.now) }
 {
-    let mut lent = IndexedRules::new(alloc, rules.len())?;
+    let mut lent = IndexedRules::new(alloc, rules.len(), Vec::new(alloc))?;
     for rule in rules {
         let own_kind = rule.kind.bytes();
         lent = lent.with(NamedRule {
             weight: rule.weight,
             kind: unalias_at(aliases, own_kind),
             own_kind,
-            pattern: rule.pattern.bytes(),
+            pattern: PatternText::Lent(rule.pattern.bytes()),
             cased: rule.cased,
         })?;
     }

@@ -33,7 +33,7 @@ use std::marker::Model;
 ///
 /// ```text
 /// let lists = read_names(alloc, &counted, &mut meter)?;
-/// let names = IndexedNames::new(alloc, counted, &lists)?;
+/// let names = IndexedNames::new(alloc, counted, lists)?;
 /// ```
 #[derive(Drop)]
 pub struct IndexedNames<'a> {
@@ -61,16 +61,16 @@ impl<'a> IndexedNames<'a> {
     pub fn new(
         alloc: Global,
         counted: Counted<'a>,
-        lists: &NameLists<'a>,
+        lists: NameLists<'a>,
     ) -> Result<IndexedNames<'a>, OutOfMemory>
         // The lists stand in the cache.
-        requires { AreNameLists counted lists.now }
+        requires { AreNameLists counted lists }
         // It is an index over this cache.
         ensures { IfOk result (λ names. names ≡ counted.entry) }
     {
         let targets = targets_of(alloc, &lists.aliases)?;
         let rules = unaliased_rules(alloc, lists, &targets)?;
-        let index = NameIndex::new(alloc, &rules)?;
+        let index = NameIndex::new(alloc, rules)?;
         Ok(IndexedNames {
             counted,
             index,

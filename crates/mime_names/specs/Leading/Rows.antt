@@ -4,11 +4,12 @@ use Rattle.std.specs.Borrow.{Bor}
 use Rattle.mime_base.specs.declared.kept.class.Class.TheVariants.{Literal}
 use Rattle.mime_names.specs.Leading.{kinds_at}
 use Rattle.mime_names.specs.declared.indexed_rule.IndexedRule.{IndexedRule}
+use Rattle.mime_names.specs.declared.pattern_text.PatternText.TheVariants.{Stored}
 
 module _ (own : Bor (List ℕ)) (a b : Bor (List ℕ)) where
   -- a rule that gives a type
   abbrev rule : Bor (List ℕ) → IndexedRule
-  rule kind = record { kind = kind; own_kind = own; start = 0; length = 0; rank = 0; weight = 50; cased = false; class = Literal }
+  rule kind = record { kind = kind; own_kind = own; pattern = Stored 0 0; rank = 0; weight = 50; cased = false; class = Literal; repeats = false }
 
   -- each place gives its rule's type, in the order of the places
   in_order : kinds_at (rule a ∷ rule b ∷ rule a ∷ []) (1 ∷ 0 ∷ []) ≡ b ∷ a ∷ []

@@ -9,13 +9,14 @@ use Rattle.mime_names.proofs.ByteLemmas.{compares-none, compares-rule}
 use Rattle.mime_names.proofs.KeptLemmas.{best-kinds, offers-hit}
 use Rattle.mime_names.proofs.LeadingLemmas.{leader-kinds}
 use Rattle.mime_names.proofs.NearLemmas.{miss_more, passed}
+use Rattle.mime_names.proofs.RepeatLemmas.{matched-before, matched-here}
 use Rattle.mime_names.proofs.leading.move_leading.Goals as goal
 use Rattle.mime_names.proofs.leading.move_leading.Goals.{then-from-place, then-is_match_after, else-is_match_after, else-from-place}
 
 pub loop-near-init : goal.loop-near-init
 loop-near-init c = record {
   leads = λ part near. record { best = refl; none = λ none. refl };
-  matched = record {};
+  matched = λ p rule none is. absurd (omega (arith, none));
   count = omega arith;
   long = refl;
   rest = λ j past. refl;
@@ -64,7 +65,8 @@ loop-near-preserved c =
                   (before.leads part near))
             ];
             matched = elim w.if-is_match_after.branch [
-              | then-is_match_after v ↦ rw (w.matched-is, v.matched-is) (sym w.is_match_after.ensures.exact ∙ v.if-is_match_after.true)
+              | then-is_match_after v ↦ rw (w.matched-is, v.matched-is)
+                  (matched-here patterns rules name place rule low w.rule_at-rule.ensures (sym w.is_match_after.ensures.exact ∙ v.if-is_match_after.true))
               | else-is_match_after v ↦ rw (w.matched-is, v.matched-is) before.matched
             ];
             count = elim w.if-is_match_after.branch [
@@ -106,6 +108,14 @@ loop-near-preserved c =
         bytes = rw (w.from-is, w.meter-is) before.bytes;
       }
     ]
+
+pub is_match_after-requires-clause-repeated : goal.is_match_after-requires-clause-repeated
+is_match_after-requires-clause-repeated c = λ repeats at.
+    let rules = c.args.rules.now in
+    let place = get_or c.loop-near.places c.loop-near.near 0 in
+    let low : place < length rules = c.loop-near.invariant.low c.loop-near.near (omega (arith, c.loop-near-test.true, c.loop-near.invariant.long)) in
+    matched-before c.args.patterns.now rules c.args.name.now place c.rule_at-rule.result.now low c.rule_at-rule.ensures
+    c.loop-near.matched c.requires.repeated at repeats c.loop-near.invariant.matched
 
 pub returns-clause-leading : goal.returns-clause-leading
 returns-clause-leading c = λ part near.

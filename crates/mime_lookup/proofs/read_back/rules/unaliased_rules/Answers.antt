@@ -1,23 +1,31 @@
-use Rattle.std.proofs.Common.{map}
-use Rattle.mime_names.specs.Rules.{own_named, plain_named}
+use Rattle.std.proofs.Common.{◌≡◌, ◌++◌, List, ap, sym, subst, ◌∙◌}
+use Rattle.std.specs.List.{All}
+use Rattle.mime_base.specs.Kept.{FitsRank}
+use Rattle.mime_base.specs.declared.database.lent.LentRule.{LentRule}
 use Rattle.mime_load.specs.Lent.{plain_rules}
-use Rattle.mime_lookup.proofs.SpellingLemmas.Targets.{owns_joined, rules_joined}
+use Rattle.mime_load.proofs.EndedTrees.{all_left, all_right}
+use Rattle.mime_names.specs.Index.{PlainRules}
 use Rattle.mime_lookup.proofs.read_back.rules.unaliased_rules.Goals as goal
 
-pub returns-clause-given : goal.returns-clause-given
-returns-clause-given c =
-    let lists = c.args.lists.now in
-    rules_joined c.args.targets.now (plain_rules lists.literals.items) lists.leaves
-    (plain_rules lists.globs.items) (map plain_named c.push_rules.new.rules.items) (map plain_named c.push_leaves.new.rules.items)
-    (map plain_named c.push_rules-2.new.rules.items)
-    (rw (c.in_ok-rules.ensures.items, c.deref.ensures.value) at c.in_ok-push_rules.ensures.given)
-    c.in_ok-push_leaves.ensures.given (rw c.deref-2.ensures.value at c.in_ok-push_rules-2.ensures.given)
+pub with_rules-requires-clause-limits : goal.with_rules-requires-clause-limits
+with_rules-requires-clause-limits c =
+    let lists = c.args.lists in
+    subst (λ (rules : List LentRule). All FitsRank (plain_rules rules)) (sym c.deref.ensures.value)
+    (all_left FitsRank (plain_rules lists.literals.items) (lists.leaves ++ plain_rules lists.globs.items) c.requires.limits)
 
-pub returns-clause-own : goal.returns-clause-own
-returns-clause-own c =
-    let lists = c.args.lists.now in
-    owns_joined (plain_rules lists.literals.items) lists.leaves
-    (plain_rules lists.globs.items) (map own_named c.push_rules.new.rules.items) (map own_named c.push_leaves.new.rules.items)
-    (map own_named c.push_rules-2.new.rules.items)
-    (rw (c.in_ok-rules.ensures.items, c.deref.ensures.value) at c.in_ok-push_rules.ensures.own)
-    c.in_ok-push_leaves.ensures.own (rw c.deref-2.ensures.value at c.in_ok-push_rules-2.ensures.own)
+pub with_leaves-requires-clause-limits : goal.with_leaves-requires-clause-limits
+with_leaves-requires-clause-limits c =
+    let lists = c.args.lists in
+    let parts = c.into_parts-leaves.result in
+    let text : c.in_ok-rules.rules.patterns ≡ parts.patterns.items =
+    c.in_ok-rules.ensures.patterns ∙ ap (λ (none : PlainRules). none.patterns) c.in_ok-none.ensures in
+    let rest = all_right FitsRank (plain_rules lists.literals.items) (lists.leaves ++ plain_rules lists.globs.items) c.requires.limits in
+    rw (c.deref-2.ensures.value, text, c.into_parts-leaves.ensures.rules)
+    (all_left FitsRank lists.leaves (plain_rules lists.globs.items) rest)
+
+pub with_rules-requires-2-clause-limits : goal.with_rules-requires-2-clause-limits
+with_rules-requires-2-clause-limits c =
+    let lists = c.args.lists in
+    subst (λ (rules : List LentRule). All FitsRank (plain_rules rules)) (sym c.deref-3.ensures.value)
+    (all_right FitsRank lists.leaves (plain_rules lists.globs.items)
+    (all_right FitsRank (plain_rules lists.literals.items) (lists.leaves ++ plain_rules lists.globs.items) c.requires.limits))
