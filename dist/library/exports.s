@@ -4780,14 +4780,14 @@ mimelook_database_hits:
 	movq	40(%rsp), %rdx
 9:
 	movq	(%rsi,%rax,8), %r9
-	movzwl	52(%r9), %r10d
+	movzwl	60(%r9), %r10d
 	movups	16(%r9), %xmm0
 	movups	%xmm0, -42(%r8)
 	movw	%r10w, -26(%r8)
 	movw	$0, -20(%r8)
 	movl	$0, -24(%r8)
 	movq	8(%rsi,%rax,8), %r9
-	movzwl	52(%r9), %r10d
+	movzwl	60(%r9), %r10d
 	movups	16(%r9), %xmm0
 	movups	%xmm0, -18(%r8)
 	movw	%r10w, -2(%r8)
@@ -4806,7 +4806,7 @@ mimelook_database_hits:
 	movq	16(%rsp), %rcx
 	movq	(%rcx,%rax,8), %rsi
 	movq	%r8, %rcx
-	movzwl	52(%rsi), %r8d
+	movzwl	60(%rsi), %r8d
 	leaq	(%rax,%rax,2), %rax
 	movups	16(%rsi), %xmm0
 	movq	16(%rsp), %rsi

@@ -2418,22 +2418,19 @@
 
 	.section	.text.unlikely,"ax",@progbits
 	.p2align	4
-	.type	"std_alloc::vec::Vec::grow_amortized::<#71dd74a6548bc337>",@function
-"std_alloc::vec::Vec::grow_amortized::<#71dd74a6548bc337>":
-	movq	%rsi, %rax
+	.type	"std_alloc::vec::Vec::grow_amortized::<#75574408efed45b1>",@function
+"std_alloc::vec::Vec::grow_amortized::<#75574408efed45b1>":
 	movq	8(%rdi), %rsi
-	addq	%rsi, %rax
-	jae	1f
-	xorl	%eax, %eax
-	retq
-1:
+	cmpq	$-1, %rsi
+	je	2f
 	pushq	%r14
 	pushq	%rbx
 	pushq	%rax
-	cmpq	$9, %rax
-	movl	$8, %ebx
-	cmovaeq	%rax, %rbx
 	movq	16(%rdi), %rcx
+	cmpq	$4, %rsi
+	movl	$3, %ebx
+	cmovaeq	%rsi, %rbx
+	incq	%rbx
 	movq	%rcx, %rdx
 	shrq	$62, %rdx
 	leaq	(%rcx,%rcx), %rax
@@ -2441,72 +2438,16 @@
 	cmovaq	%rbx, %rax
 	testq	%rdx, %rdx
 	cmoveq	%rax, %rbx
-	testq	%rbx, %rbx
-	js	4f
-	testq	%rcx, %rcx
-	je	3f
-	movq	%rdi, %r14
-	movq	(%rdi), %rdi
-	movl	$1, %ecx
 	movq	%rbx, %rdx
-	callq	rattle_realloc@PLT
-	testb	$1, %al
-	je	4f
-2:
-	movq	%rdx, (%r14)
-	movq	%rbx, 16(%r14)
-	movb	$1, %al
-	addq	$8, %rsp
-	popq	%rbx
-	popq	%r14
-	retq
-3:
-	movq	%rdi, %r14
-	movl	$1, %esi
-	movq	%rax, %rdi
-	callq	rattle_alloc@PLT
-	testb	$1, %al
-	jne	2b
-4:
-	xorl	%eax, %eax
-	addq	$8, %rsp
-	popq	%rbx
-	popq	%r14
-	retq
-5:
-	.size	"std_alloc::vec::Vec::grow_amortized::<#71dd74a6548bc337>", 5b-"std_alloc::vec::Vec::grow_amortized::<#71dd74a6548bc337>"
-
-	.section	.text.unlikely,"ax",@progbits
-	.p2align	4
-	.type	"std_alloc::vec::Vec::grow_amortized::<#75574408efed45b1>",@function
-"std_alloc::vec::Vec::grow_amortized::<#75574408efed45b1>":
-	movq	8(%rdi), %rax
-	cmpq	$-1, %rax
-	je	2f
-	pushq	%r14
-	pushq	%rbx
-	pushq	%rax
-	movq	16(%rdi), %rcx
-	cmpq	$4, %rax
-	movl	$3, %ebx
-	cmovaeq	%rax, %rbx
-	incq	%rbx
-	movq	%rcx, %rsi
-	shrq	$62, %rsi
-	leaq	(%rcx,%rcx), %rdx
-	cmpq	%rdx, %rbx
-	cmovaq	%rbx, %rdx
-	testq	%rsi, %rsi
-	cmoveq	%rdx, %rbx
-	movabsq	$164703072086692425, %rsi
-	cmpq	%rsi, %rbx
-	ja	4f
+	shrq	$57, %rdx
+	jne	4f
 	testq	%rcx, %rcx
 	je	3f
 	movq	%rdi, %r14
 	movq	(%rdi), %rdi
-	imulq	$56, %rax, %rsi
-	imulq	$56, %rbx, %rdx
+	shlq	$6, %rsi
+	movq	%rbx, %rdx
+	shlq	$6, %rdx
 	movl	$8, %ecx
 	callq	rattle_realloc@PLT
 	testb	$1, %al
@@ -2524,8 +2465,9 @@
 	retq
 3:
 	movq	%rdi, %r14
-	imulq	$56, %rdx, %rdi
+	shlq	$6, %rax
 	movl	$8, %esi
+	movq	%rax, %rdi
 	callq	rattle_alloc@PLT
 	testb	$1, %al
 	jne	1b
@@ -3555,70 +3497,6 @@
 
 	.section	.text.unlikely,"ax",@progbits
 	.p2align	4
-	.type	"std_alloc::vec::Vec::grow_amortized::<#d94923d3a7dcb8c1>",@function
-"std_alloc::vec::Vec::grow_amortized::<#d94923d3a7dcb8c1>":
-	movq	8(%rdi), %rsi
-	cmpq	$-1, %rsi
-	je	2f
-	pushq	%r14
-	pushq	%rbx
-	pushq	%rax
-	movq	16(%rdi), %rcx
-	cmpq	$4, %rsi
-	movl	$3, %ebx
-	cmovaeq	%rsi, %rbx
-	incq	%rbx
-	movq	%rcx, %rdx
-	shrq	$62, %rdx
-	leaq	(%rcx,%rcx), %rax
-	cmpq	%rax, %rbx
-	cmovaq	%rbx, %rax
-	testq	%rdx, %rdx
-	cmoveq	%rax, %rbx
-	movq	%rbx, %rdx
-	shrq	$57, %rdx
-	jne	4f
-	testq	%rcx, %rcx
-	je	3f
-	movq	%rdi, %r14
-	movq	(%rdi), %rdi
-	shlq	$6, %rsi
-	movq	%rbx, %rdx
-	shlq	$6, %rdx
-	movl	$8, %ecx
-	callq	rattle_realloc@PLT
-	testb	$1, %al
-	je	4f
-1:
-	movq	%rdx, (%r14)
-	movq	%rbx, 16(%r14)
-	movb	$1, %al
-	addq	$8, %rsp
-	popq	%rbx
-	popq	%r14
-	retq
-2:
-	xorl	%eax, %eax
-	retq
-3:
-	movq	%rdi, %r14
-	shlq	$6, %rax
-	movl	$8, %esi
-	movq	%rax, %rdi
-	callq	rattle_alloc@PLT
-	testb	$1, %al
-	jne	1b
-4:
-	xorl	%eax, %eax
-	addq	$8, %rsp
-	popq	%rbx
-	popq	%r14
-	retq
-5:
-	.size	"std_alloc::vec::Vec::grow_amortized::<#d94923d3a7dcb8c1>", 5b-"std_alloc::vec::Vec::grow_amortized::<#d94923d3a7dcb8c1>"
-
-	.section	.text.unlikely,"ax",@progbits
-	.p2align	4
 	.type	"std_alloc::vec::Vec::grow_amortized::<#dd15b8e9b635a37b>",@function
 "std_alloc::vec::Vec::grow_amortized::<#dd15b8e9b635a37b>":
 	movq	8(%rdi), %rsi
@@ -3749,17 +3627,20 @@
 	.p2align	4
 	.type	"std_alloc::vec::Vec::grow_amortized::<#e5d85e99c87df23c>",@function
 "std_alloc::vec::Vec::grow_amortized::<#e5d85e99c87df23c>":
+	movq	%rsi, %rax
 	movq	8(%rdi), %rsi
-	cmpq	$-1, %rsi
-	je	2f
+	addq	%rsi, %rax
+	jae	1f
+	xorl	%eax, %eax
+	retq
+1:
 	pushq	%r14
 	pushq	%rbx
 	pushq	%rax
 	movq	16(%rdi), %rcx
-	cmpq	$4, %rsi
-	movl	$3, %ebx
-	cmovaeq	%rsi, %rbx
-	incq	%rbx
+	cmpq	$5, %rax
+	movl	$4, %ebx
+	cmovaeq	%rax, %rbx
 	movq	%rcx, %rdx
 	shrq	$62, %rdx
 	leaq	(%rcx,%rcx), %rax
@@ -3780,16 +3661,13 @@
 	callq	rattle_realloc@PLT
 	testb	$1, %al
 	je	4f
-1:
+2:
 	movq	%rdx, (%r14)
 	movq	%rbx, 16(%r14)
 	movb	$1, %al
 	addq	$8, %rsp
 	popq	%rbx
 	popq	%r14
-	retq
-2:
-	xorl	%eax, %eax
 	retq
 3:
 	movq	%rdi, %r14
@@ -3798,7 +3676,7 @@
 	movq	%rax, %rdi
 	callq	rattle_alloc@PLT
 	testb	$1, %al
-	jne	1b
+	jne	2b
 4:
 	xorl	%eax, %eax
 	addq	$8, %rsp

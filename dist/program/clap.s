@@ -8699,7 +8699,7 @@
 	shll	$3, %r9d
 	leaq	".Lswitch.table.clap::builder::command::building::build_levels"(%rip), %r10
 	movq	(%r9,%r10), %r10
-	leaq	".Lswitch.table.clap::builder::command::building::build_levels.2669"(%rip), %r11
+	leaq	".Lswitch.table.clap::builder::command::building::build_levels.2664"(%rip), %r11
 	movq	(%r9,%r11), %r9
 	movq	$1, -83(%rdi,%rsi)
 	movq	%r10, -75(%rdi,%rsi)
@@ -34020,7 +34020,7 @@
 	shll	$3, %eax
 	leaq	".Lswitch.table.clap::parser::parse::Parser::check_value"(%rip), %rcx
 	movq	(%rax,%rcx), %rdx
-	leaq	".Lswitch.table.clap::parser::parse::Parser::check_value.2670"(%rip), %rcx
+	leaq	".Lswitch.table.clap::parser::parse::Parser::check_value.2665"(%rip), %rcx
 	movq	(%rax,%rcx), %rsi
 	cmpq	$0, 288(%rsp)
 	jne	240f
@@ -46896,7 +46896,7 @@
 	jne	37b
 	movq	%r8, 104(%rsp)
 	leaq	40(%rsp), %rdi
-	callq	"std_alloc::vec::Vec::grow_amortized::<#383af2bc39eacab1>"
+	callq	"std_alloc::vec::Vec::grow_amortized::<#3e74848cb5369e83>"
 	testb	%al, %al
 	je	61f
 	movq	40(%rsp), %rsi
@@ -46944,7 +46944,7 @@
 	movq	%rbp, 96(%rsp)
 	movq	%r11, %rbp
 	leaq	40(%rsp), %rdi
-	callq	"std_alloc::vec::Vec::grow_amortized::<#383af2bc39eacab1>"
+	callq	"std_alloc::vec::Vec::grow_amortized::<#3e74848cb5369e83>"
 	testb	%al, %al
 	jne	43b
 	cmpq	$0, 56(%rsp)

@@ -7282,8 +7282,8 @@
 	movq	%rcx, %rdi
 	movq	(%r13,%rcx,8), %r8
 	movq	(%r13,%rdx,8), %r9
-	movl	48(%r9), %r9d
-	movl	48(%r8), %r8d
+	movl	56(%r9), %r9d
+	movl	56(%r8), %r8d
 	cmpl	%r8d, %r9d
 	adcq	$0, %rcx
 	cmpl	%r8d, %r9d
@@ -7297,8 +7297,8 @@
 	jae	5f
 	movq	-8(%r13,%rsi,8), %rdi
 	movq	-8(%r13,%r12,8), %r8
-	movl	48(%r8), %r8d
-	movl	48(%rdi), %edi
+	movl	56(%r8), %r8d
+	movl	56(%rdi), %edi
 	cmpl	%edi, %r8d
 	movq	%r12, %r9
 	sbbq	$0, %r9
@@ -7389,8 +7389,8 @@
 	movq	%rcx, %rdx
 	movq	(%r14,%rcx,8), %rsi
 	movq	(%r13,%r8,8), %rdi
-	movl	48(%rdi), %edi
-	movl	48(%rsi), %esi
+	movl	56(%rdi), %edi
+	movl	56(%rsi), %esi
 	cmpl	%esi, %edi
 	adcq	$0, %rcx
 	cmpl	%esi, %edi
@@ -7593,8 +7593,8 @@
 	leaq	-1(%rax), %rsi
 	movq	-8(%r13,%r15,8), %rdi
 	movq	-8(%r14,%rax,8), %r8
-	movl	48(%r8), %r8d
-	movl	48(%rdi), %edi
+	movl	56(%r8), %r8d
+	movl	56(%rdi), %edi
 	cmpl	%edi, %r8d
 	adcq	$-1, %r15
 	cmpl	%edi, %r8d
@@ -13029,12 +13029,12 @@
 	jae	1f
 	movq	(%rdi,%rsi,8), %rax
 	movq	(%rdi,%rbx,8), %rcx
-	movl	48(%rax), %eax
-	movl	48(%rcx), %ecx
+	movl	56(%rax), %eax
+	movl	56(%rcx), %ecx
 	cmpl	%eax, %ecx
 	setb	%dl
 	movq	(%rdi,%r14,8), %rdi
-	movl	48(%rdi), %edi
+	movl	56(%rdi), %edi
 	cmpl	%eax, %edi
 	setb	%al
 	xorb	%dl, %al
@@ -13073,12 +13073,12 @@
 	callq	"core::slice::sort::pivot::median_of_medians::<#196989f31ad14034>"
 	movq	(%r12,%r15,8), %rcx
 	movq	(%r12,%rbx,8), %rdx
-	movl	48(%rcx), %ecx
-	movl	48(%rdx), %edx
+	movl	56(%rcx), %ecx
+	movl	56(%rdx), %edx
 	cmpl	%ecx, %edx
 	setb	%sil
 	movq	(%r12,%rax,8), %rdi
-	movl	48(%rdi), %edi
+	movl	56(%rdi), %edi
 	cmpl	%ecx, %edi
 	setb	%cl
 	xorb	%sil, %cl
@@ -14664,8 +14664,8 @@
 	addq	%r13, %rdi
 	movq	(%r13,%rbx,8), %rax
 	movq	8(%r13,%rbx,8), %rcx
-	movl	48(%rcx), %ecx
-	movl	48(%rax), %edx
+	movl	56(%rcx), %ecx
+	movl	56(%rax), %edx
 	cmpl	%ecx, %edx
 	jae	3f
 	cmpq	%r12, %r15
@@ -14674,8 +14674,8 @@
 2:
 	movq	-8(%r13,%r15,8), %rax
 	movq	(%r13,%r15,8), %rsi
-	movl	48(%rax), %eax
-	cmpl	48(%rsi), %eax
+	movl	56(%rax), %eax
+	cmpl	56(%rsi), %eax
 	jae	6f
 	incq	%r15
 	cmpq	%r15, %r12
@@ -14688,8 +14688,8 @@
 4:
 	movq	-8(%r13,%r15,8), %rax
 	movq	(%r13,%r15,8), %rsi
-	movl	48(%rax), %eax
-	cmpl	48(%rsi), %eax
+	movl	56(%rax), %eax
+	cmpl	56(%rsi), %eax
 	jb	6f
 	incq	%r15
 	cmpq	%r15, %r12
@@ -14851,9 +14851,9 @@
 20:
 	movq	-8(%r13,%rbp), %rax
 	movq	(%r13,%rbp), %rcx
-	movl	48(%rax), %eax
+	movl	56(%rax), %eax
 	movb	$1, %bpl
-	cmpl	48(%rcx), %eax
+	cmpl	56(%rcx), %eax
 	movq	%r15, %r12
 	jae	17b
 	movq	%rbx, %rsi
@@ -17580,8 +17580,8 @@
 	movq	%rdx, %r11
 	movq	(%rdi,%rsi,8), %rbp
 	movq	(%rdi,%rcx,8), %r12
-	movl	48(%r12), %r12d
-	movl	48(%rbp), %ebp
+	movl	56(%r12), %r12d
+	movl	56(%rbp), %ebp
 	cmpl	%ebp, %r12d
 	adcq	$0, %rsi
 	cmpl	%ebp, %r12d
@@ -17590,8 +17590,8 @@
 	movb	%r13b, 16(%rsp,%r10)
 	movq	-8(%rdi,%r8,8), %r12
 	movq	-8(%rdi,%rdx,8), %r13
-	movl	48(%r13), %ebp
-	movl	48(%r12), %r12d
+	movl	56(%r13), %ebp
+	movl	56(%r12), %r12d
 	cmpl	%r12d, %ebp
 	sbbq	$0, %rdx
 	cmpl	%r12d, %ebp
@@ -17658,8 +17658,8 @@
 10:
 	movq	-8(%rdi,%rcx,8), %r8
 	movq	(%rdi,%rcx,8), %rdx
-	movl	48(%r8), %esi
-	cmpl	48(%rdx), %esi
+	movl	56(%r8), %esi
+	cmpl	56(%rdx), %esi
 	jae	9b
 	movq	%rcx, %rsi
 	movq	%r8, (%rdi,%rcx,8)
@@ -17668,8 +17668,8 @@
 	.p2align	4
 11:
 	movq	-8(%rdi,%rsi,8), %r8
-	movl	48(%r8), %r9d
-	cmpl	48(%rdx), %r9d
+	movl	56(%r8), %r9d
+	cmpl	56(%rdx), %r9d
 	jae	12f
 	movq	%r8, (%rdi,%rsi,8)
 	decq	%rsi
@@ -19889,31 +19889,31 @@
 	jb	1f
 	movq	(%rdi), %rax
 	movq	8(%rdi), %rcx
-	movl	48(%rax), %r8d
+	movl	56(%rax), %r8d
 	xorl	%eax, %eax
 	xorl	%r14d, %r14d
-	cmpl	48(%rcx), %r8d
+	cmpl	56(%rcx), %r8d
 	setae	%al
 	setb	%r14b
 	movq	24(%rdi), %r8
 	movq	16(%rdi), %rcx
-	movl	48(%rcx), %r9d
+	movl	56(%rcx), %r9d
 	xorl	%ecx, %ecx
-	cmpl	48(%r8), %r9d
+	cmpl	56(%r8), %r9d
 	setb	%cl
 	leal	2(%rcx), %r8d
 	xorl	$3, %ecx
 	movq	(%rdi,%r8,8), %r9
 	movq	(%rdi,%r14,8), %r10
-	movl	48(%r10), %r10d
-	movl	48(%r9), %r11d
+	movl	56(%r10), %r10d
+	movl	56(%r9), %r11d
 	cmpl	%r11d, %r10d
 	movq	(%rdi,%rcx,8), %rbx
 	movq	(%rdi,%rax,8), %r9
-	movl	48(%r9), %ebp
+	movl	56(%r9), %ebp
 	movl	%r8d, %r9d
 	cmovbl	%eax, %r9d
-	cmpl	48(%rbx), %ebp
+	cmpl	56(%rbx), %ebp
 	cmovbl	%ecx, %r9d
 	cmovbl	%eax, %ecx
 	movl	%eax, %ebx
@@ -19926,9 +19926,9 @@
 	movq	%rdx, (%rsp)
 	movq	(%rdi,%r9,8), %r10
 	movq	(%rdi,%rbx,8), %r11
-	movl	48(%r11), %r11d
+	movl	56(%r11), %r11d
 	cmovbl	%r8d, %r14d
-	cmpl	48(%r10), %r11d
+	cmpl	56(%r10), %r11d
 	movq	(%rdi,%r14,8), %r13
 	movl	%ebx, %edx
 	cmovbl	%r9d, %edx
@@ -19942,15 +19942,15 @@
 	movq	%rcx, 24(%rax)
 	movq	32(%rdi), %rdx
 	movq	40(%rdi), %r8
-	movl	48(%rdx), %edx
+	movl	56(%rdx), %edx
 	xorl	%r9d, %r9d
-	cmpl	48(%r8), %edx
+	cmpl	56(%r8), %edx
 	setb	%r9b
 	movq	56(%rdi), %r8
 	movq	48(%rdi), %rdx
-	movl	48(%rdx), %r10d
+	movl	56(%rdx), %r10d
 	xorl	%edx, %edx
-	cmpl	48(%r8), %r10d
+	cmpl	56(%r8), %r10d
 	setb	%dl
 	leal	4(%r9), %r8d
 	xorl	$5, %r9d
@@ -19958,15 +19958,15 @@
 	xorl	$7, %edx
 	movq	(%rdi,%r10,8), %r11
 	movq	(%rdi,%r8,8), %rbx
-	movl	48(%rbx), %ebx
-	movl	48(%r11), %ebp
+	movl	56(%rbx), %ebx
+	movl	56(%r11), %ebp
 	cmpl	%ebp, %ebx
 	movq	(%rdi,%rdx,8), %r14
 	movq	(%rdi,%r9,8), %r11
-	movl	48(%r11), %r15d
+	movl	56(%r11), %r15d
 	movl	%r10d, %r11d
 	cmovbl	%r9d, %r11d
-	cmpl	48(%r14), %r15d
+	cmpl	56(%r14), %r15d
 	cmovbl	%edx, %r11d
 	cmovbl	%r9d, %edx
 	cmovbl	%r10d, %r9d
@@ -19974,9 +19974,9 @@
 	cmovbl	%r8d, %r9d
 	movq	(%rdi,%r11,8), %rbx
 	movq	(%rdi,%r9,8), %r14
-	movl	48(%r14), %ebp
+	movl	56(%r14), %ebp
 	cmovbl	%r10d, %r8d
-	cmpl	48(%rbx), %ebp
+	cmpl	56(%rbx), %ebp
 	movq	(%rdi,%r8,8), %r8
 	movq	%r8, 32(%rax)
 	movl	%r9d, %r10d
@@ -19988,8 +19988,8 @@
 	movq	%r9, 48(%rax)
 	movq	(%rdi,%rdx,8), %rdx
 	movq	%rdx, 56(%rax)
-	movl	48(%rdx), %edx
-	movl	48(%rcx), %r9d
+	movl	56(%rdx), %edx
+	movl	56(%rcx), %r9d
 	xorl	%ecx, %ecx
 	movl	%edx, -84(%rsp)
 	movl	%r9d, -88(%rsp)
@@ -20002,8 +20002,8 @@
 	movq	48(%rax,%rcx,8), %rdx
 	movq	%r9, -16(%rsp)
 	movq	-8(%rax,%r9,8), %r9
-	movl	48(%rdx), %edx
-	movl	48(%r9), %r9d
+	movl	56(%rdx), %edx
+	movl	56(%r9), %r9d
 	cmpl	%edx, %r9d
 	sbbq	%rcx, %r11
 	movl	%edx, -68(%rsp)
@@ -20013,8 +20013,8 @@
 	adcq	$-1, %r12
 	movq	-8(%rax,%r12,8), %rcx
 	movq	-8(%rax,%r11,8), %rdx
-	movl	48(%rcx), %r9d
-	movl	48(%rdx), %edx
+	movl	56(%rcx), %r9d
+	movl	56(%rdx), %edx
 	xorl	%ecx, %ecx
 	movl	%r9d, -76(%rsp)
 	movl	%edx, -80(%rsp)
@@ -20025,10 +20025,10 @@
 	movq	%r11, %r9
 	subq	%rcx, %r9
 	movq	-8(%rax,%r12,8), %rdx
-	movl	48(%rdx), %r10d
+	movl	56(%rdx), %r10d
 	movq	%r9, -48(%rsp)
 	movq	-8(%rax,%r9,8), %rdx
-	movl	48(%rdx), %edx
+	movl	56(%rdx), %edx
 	cmpl	%r10d, %edx
 	movq	%r11, -32(%rsp)
 	sbbq	%rcx, %r11
@@ -20036,12 +20036,12 @@
 	movl	%r10d, -92(%rsp)
 	movl	%edx, -96(%rsp)
 	cmpl	%r10d, %edx
-	movl	48(%r8), %ecx
+	movl	56(%r8), %ecx
 	movl	%r12d, %edx
 	adcl	$-1, %edx
 	movl	%edx, -128(%rsp)
 	movq	%r13, -64(%rsp)
-	movl	48(%r13), %edx
+	movl	56(%r13), %edx
 	xorl	%r8d, %r8d
 	movl	%ecx, -100(%rsp)
 	movl	%edx, -108(%rsp)
@@ -20050,9 +20050,9 @@
 	movq	%r8, %r15
 	xorq	$5, %r15
 	movq	(%rax,%r15,8), %rcx
-	movl	48(%rcx), %edx
+	movl	56(%rcx), %edx
 	movq	(%rax,%r8,8), %rcx
-	movl	48(%rcx), %ecx
+	movl	56(%rcx), %ecx
 	xorl	%ebp, %ebp
 	movl	%edx, -104(%rsp)
 	movl	%ecx, -112(%rsp)
@@ -20065,8 +20065,8 @@
 	leaq	(%r15,%rbp), %rdx
 	movq	%rdx, -56(%rsp)
 	movq	(%rax,%rdx,8), %rdx
-	movl	48(%rdx), %r13d
-	movl	48(%rcx), %edx
+	movl	56(%rdx), %r13d
+	movl	56(%rcx), %edx
 	cmpl	%r13d, %edx
 	adcq	%r15, %rbp
 	cmpl	%r13d, %edx
@@ -20076,8 +20076,8 @@
 	movq	(%rax,%rcx,8), %rcx
 	movl	%ebx, %r9d
 	movq	(%rax,%r9,8), %r9
-	movl	48(%rcx), %r11d
-	movl	48(%r9), %r9d
+	movl	56(%rcx), %r11d
+	movl	56(%r9), %r9d
 	cmpl	%r11d, %r9d
 	movl	%ebp, %r14d
 	adcl	$0, %r14d
@@ -20148,31 +20148,31 @@
 	jb	6f
 	movq	(%rdi), %rax
 	movq	8(%rdi), %r8
-	movl	48(%rax), %eax
+	movl	56(%rax), %eax
 	xorl	%r14d, %r14d
 	xorl	%ecx, %ecx
-	cmpl	48(%r8), %eax
+	cmpl	56(%r8), %eax
 	setae	%r14b
 	setb	%cl
 	movq	24(%rdi), %r8
 	movq	16(%rdi), %rax
-	movl	48(%rax), %r9d
+	movl	56(%rax), %r9d
 	xorl	%eax, %eax
-	cmpl	48(%r8), %r9d
+	cmpl	56(%r8), %r9d
 	setb	%al
 	leal	2(%rax), %r9d
 	xorl	$3, %eax
 	movq	(%rdi,%r9,8), %r8
 	movq	(%rdi,%rcx,8), %r10
-	movl	48(%r10), %r11d
-	movl	48(%r8), %r8d
+	movl	56(%r10), %r11d
+	movl	56(%r8), %r8d
 	cmpl	%r8d, %r11d
 	movq	(%rdi,%rax,8), %rbx
 	movq	(%rdi,%r14,8), %r10
-	movl	48(%r10), %ebp
+	movl	56(%r10), %ebp
 	movl	%r9d, %r10d
 	cmovbl	%r14d, %r10d
-	cmpl	48(%rbx), %ebp
+	cmpl	56(%rbx), %ebp
 	cmovbl	%eax, %r10d
 	cmovbl	%r14d, %eax
 	movl	%r14d, %ebx
@@ -20183,9 +20183,9 @@
 	movq	8(%rdx), %r8
 	movq	(%rdi,%r10,8), %r11
 	movq	(%rdi,%rbx,8), %r14
-	movl	48(%r14), %ebp
+	movl	56(%r14), %ebp
 	cmovbl	%r9d, %ecx
-	cmpl	48(%r11), %ebp
+	cmpl	56(%r11), %ebp
 	movq	(%rdi,%rcx,8), %rcx
 	movl	%ebx, %r9d
 	cmovbl	%r10d, %r9d
@@ -20282,8 +20282,8 @@
 13:
 	movq	-8(%rdi,%rcx,8), %r8
 	movq	(%rdi,%rcx,8), %rax
-	movl	48(%r8), %edx
-	cmpl	48(%rax), %edx
+	movl	56(%r8), %edx
+	cmpl	56(%rax), %edx
 	jae	12b
 	movq	%rcx, %rdx
 	movq	%r8, (%rdi,%rcx,8)
@@ -20292,8 +20292,8 @@
 	.p2align	4
 14:
 	movq	-8(%rdi,%rdx,8), %r8
-	movl	48(%r8), %r9d
-	cmpl	48(%rax), %r9d
+	movl	56(%r8), %r9d
+	cmpl	56(%rax), %r9d
 	jae	15f
 	movq	%r8, (%rdi,%rdx,8)
 	decq	%rdx
@@ -27172,12 +27172,12 @@
 	shlq	$5, %r8
 	movq	(%r15), %rsi
 	movq	(%r15,%r8), %rdi
-	movl	48(%rsi), %esi
-	movl	48(%rdi), %edi
+	movl	56(%rsi), %esi
+	movl	56(%rdi), %edi
 	cmpl	%esi, %edi
 	setb	%r8b
 	movq	(%r15,%rax), %rax
-	movl	48(%rax), %eax
+	movl	56(%rax), %eax
 	cmpl	%esi, %eax
 	setb	%sil
 	xorb	%r8b, %sil
@@ -27209,11 +27209,11 @@
 8:
 	movq	(%r15,%rbx,8), %rcx
 	movq	(%r15,%r13,8), %rax
-	movl	48(%rax), %edx
+	movl	56(%rax), %edx
 	movq	8(%rsp), %rsi
 	movq	(%rsi), %r12
 	movq	8(%rsi), %r10
-	cmpl	48(%rcx), %edx
+	cmpl	56(%rcx), %edx
 	jae	15f
 9:
 	xorl	%ecx, %ecx
@@ -27223,11 +27223,11 @@
 	.p2align	4
 10:
 	movq	(%r15,%rdx,8), %rsi
-	movl	48(%rax), %edi
+	movl	56(%rax), %edi
 	leaq	(,%rcx,8), %r8
 	movq	%r12, %r9
 	subq	%r8, %r9
-	cmpl	48(%rsi), %edi
+	cmpl	56(%rsi), %edi
 	movq	%rsi, (%r15,%rcx,8)
 	movq	%rsi, (%r9,%rdx,8)
 	adcq	$0, %rcx
@@ -27243,11 +27243,11 @@
 	.p2align	4
 12:
 	movq	(%r15,%rdx,8), %rsi
-	movl	48(%rax), %edi
+	movl	56(%rax), %edi
 	leaq	(,%rbx,8), %r8
 	movq	%r12, %r9
 	subq	%r8, %r9
-	cmpl	48(%rsi), %edi
+	cmpl	56(%rsi), %edi
 	movq	%rsi, (%r15,%rbx,8)
 	movq	%rsi, (%r9,%rdx,8)
 	adcq	$0, %rbx
@@ -27287,11 +27287,11 @@
 	.p2align	4
 16:
 	movq	(%r15,%rdx,8), %rsi
-	movl	48(%rsi), %edi
+	movl	56(%rsi), %edi
 	leaq	(,%rcx,8), %r8
 	movq	%r12, %r9
 	subq	%r8, %r9
-	cmpl	48(%rax), %edi
+	cmpl	56(%rax), %edi
 	movq	%rsi, (%r15,%rcx,8)
 	movq	%rsi, (%r9,%rdx,8)
 	sbbq	$-1, %rcx
@@ -27306,11 +27306,11 @@
 	.p2align	4
 18:
 	movq	(%r15,%r13,8), %rdx
-	movl	48(%rdx), %edi
+	movl	56(%rdx), %edi
 	leaq	(,%rsi,8), %r8
 	movq	%r12, %r9
 	subq	%r8, %r9
-	cmpl	48(%rax), %edi
+	cmpl	56(%rax), %edi
 	movq	%rdx, (%r15,%rsi,8)
 	movq	%rdx, (%r9,%r13,8)
 	sbbq	$-1, %rsi

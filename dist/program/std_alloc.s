@@ -10368,69 +10368,6 @@
 
 	.section	.text.unlikely,"ax",@progbits
 	.p2align	4
-	.type	"std_alloc::vec::Vec::grow_amortized::<#383af2bc39eacab1>",@function
-"std_alloc::vec::Vec::grow_amortized::<#383af2bc39eacab1>":
-	movq	8(%rdi), %rsi
-	cmpq	$-1, %rsi
-	je	2f
-	pushq	%r14
-	pushq	%rbx
-	pushq	%rax
-	movq	16(%rdi), %rcx
-	cmpq	$4, %rsi
-	movl	$3, %ebx
-	cmovaeq	%rsi, %rbx
-	incq	%rbx
-	movq	%rcx, %rdx
-	shrq	$62, %rdx
-	leaq	(%rcx,%rcx), %rax
-	cmpq	%rax, %rbx
-	cmovaq	%rbx, %rax
-	testq	%rdx, %rdx
-	cmoveq	%rax, %rbx
-	movq	%rbx, %rdx
-	shrq	$60, %rdx
-	jne	4f
-	testq	%rcx, %rcx
-	je	3f
-	movq	%rdi, %r14
-	movq	(%rdi), %rdi
-	shlq	$3, %rsi
-	leaq	(,%rbx,8), %rdx
-	movl	$8, %ecx
-	callq	rattle_realloc@PLT
-	testb	$1, %al
-	je	4f
-1:
-	movq	%rdx, (%r14)
-	movq	%rbx, 16(%r14)
-	movb	$1, %al
-	addq	$8, %rsp
-	popq	%rbx
-	popq	%r14
-	retq
-2:
-	xorl	%eax, %eax
-	retq
-3:
-	movq	%rdi, %r14
-	shlq	$3, %rax
-	movl	$8, %esi
-	movq	%rax, %rdi
-	callq	rattle_alloc@PLT
-	testb	$1, %al
-	jne	1b
-4:
-	xorl	%eax, %eax
-	addq	$8, %rsp
-	popq	%rbx
-	popq	%r14
-	retq
-5:
-	.size	"std_alloc::vec::Vec::grow_amortized::<#383af2bc39eacab1>", 5b-"std_alloc::vec::Vec::grow_amortized::<#383af2bc39eacab1>"
-
-	.section	.text.unlikely,"ax",@progbits
-	.p2align	4
 	.type	"std_alloc::vec::Vec::grow_amortized::<#3a45404b3fcd1c9c>",@function
 "std_alloc::vec::Vec::grow_amortized::<#3a45404b3fcd1c9c>":
 	movq	8(%rdi), %rax
@@ -10620,6 +10557,69 @@
 	retq
 5:
 	.size	"std_alloc::vec::Vec::grow_amortized::<#3b6d026ce996fc29>", 5b-"std_alloc::vec::Vec::grow_amortized::<#3b6d026ce996fc29>"
+
+	.section	.text.unlikely,"ax",@progbits
+	.p2align	4
+	.type	"std_alloc::vec::Vec::grow_amortized::<#3e74848cb5369e83>",@function
+"std_alloc::vec::Vec::grow_amortized::<#3e74848cb5369e83>":
+	movq	8(%rdi), %rsi
+	cmpq	$-1, %rsi
+	je	2f
+	pushq	%r14
+	pushq	%rbx
+	pushq	%rax
+	movq	16(%rdi), %rcx
+	cmpq	$4, %rsi
+	movl	$3, %ebx
+	cmovaeq	%rsi, %rbx
+	incq	%rbx
+	movq	%rcx, %rdx
+	shrq	$62, %rdx
+	leaq	(%rcx,%rcx), %rax
+	cmpq	%rax, %rbx
+	cmovaq	%rbx, %rax
+	testq	%rdx, %rdx
+	cmoveq	%rax, %rbx
+	movq	%rbx, %rdx
+	shrq	$60, %rdx
+	jne	4f
+	testq	%rcx, %rcx
+	je	3f
+	movq	%rdi, %r14
+	movq	(%rdi), %rdi
+	shlq	$3, %rsi
+	leaq	(,%rbx,8), %rdx
+	movl	$8, %ecx
+	callq	rattle_realloc@PLT
+	testb	$1, %al
+	je	4f
+1:
+	movq	%rdx, (%r14)
+	movq	%rbx, 16(%r14)
+	movb	$1, %al
+	addq	$8, %rsp
+	popq	%rbx
+	popq	%r14
+	retq
+2:
+	xorl	%eax, %eax
+	retq
+3:
+	movq	%rdi, %r14
+	shlq	$3, %rax
+	movl	$8, %esi
+	movq	%rax, %rdi
+	callq	rattle_alloc@PLT
+	testb	$1, %al
+	jne	1b
+4:
+	xorl	%eax, %eax
+	addq	$8, %rsp
+	popq	%rbx
+	popq	%r14
+	retq
+5:
+	.size	"std_alloc::vec::Vec::grow_amortized::<#3e74848cb5369e83>", 5b-"std_alloc::vec::Vec::grow_amortized::<#3e74848cb5369e83>"
 
 	.section	.text.unlikely,"ax",@progbits
 	.p2align	4
@@ -11955,17 +11955,20 @@
 	.p2align	4
 	.type	"std_alloc::vec::Vec::grow_amortized::<#e5d85e99c87df23c>",@function
 "std_alloc::vec::Vec::grow_amortized::<#e5d85e99c87df23c>":
+	movq	%rsi, %rax
 	movq	8(%rdi), %rsi
-	cmpq	$-1, %rsi
-	je	2f
+	addq	%rsi, %rax
+	jae	1f
+	xorl	%eax, %eax
+	retq
+1:
 	pushq	%r14
 	pushq	%rbx
 	pushq	%rax
 	movq	16(%rdi), %rcx
-	cmpq	$4, %rsi
-	movl	$3, %ebx
-	cmovaeq	%rsi, %rbx
-	incq	%rbx
+	cmpq	$5, %rax
+	movl	$4, %ebx
+	cmovaeq	%rax, %rbx
 	movq	%rcx, %rdx
 	shrq	$62, %rdx
 	leaq	(%rcx,%rcx), %rax
@@ -11986,16 +11989,13 @@
 	callq	rattle_realloc@PLT
 	testb	$1, %al
 	je	4f
-1:
+2:
 	movq	%rdx, (%r14)
 	movq	%rbx, 16(%r14)
 	movb	$1, %al
 	addq	$8, %rsp
 	popq	%rbx
 	popq	%r14
-	retq
-2:
-	xorl	%eax, %eax
 	retq
 3:
 	movq	%rdi, %r14
@@ -12004,7 +12004,7 @@
 	movq	%rax, %rdi
 	callq	rattle_alloc@PLT
 	testb	$1, %al
-	jne	1b
+	jne	2b
 4:
 	xorl	%eax, %eax
 	addq	$8, %rsp
