@@ -1,33 +1,22 @@
 //! What the words of the commands over a cache ask for, and words without a source.
 
-use crate::tests::checked::alike;
-use mime_request::{Request, request_of};
-use std::alloc::Global;
-use std::process::Abort;
+use super::{Asked, asks};
 use std::test::Fail;
-
-/// Words, and the request that they are, as `Debug` writes it.
-#[derive(Clone, Copy)]
-struct Asked {
-    name: &'static str,
-    words: &'static [&'static str],
-    request: &'static str,
-}
 
 static USERS: [Asked; 3] = [
     Asked {
         name: "build of the user's directories",
-        words: &["build", "-o", "c"],
+        words: "build -o c",
         request: r#"Build { directories: User, drop_twins: false, file: "c" }"#,
     },
     Asked {
         name: "build without twins of the user's directories",
-        words: &["build", "--drop-twins", "-o", "c"],
+        words: "build --drop-twins -o c",
         request: r#"Build { directories: User, drop_twins: true, file: "c" }"#,
     },
     Asked {
         name: "plain of the user's directories",
-        words: &["plain", "--name-only", "x"],
+        words: "plain --name-only x",
         request: r#"Plain { directories: User, options: Options { name_only: true, content_only: false, magic_first: false, all_globs: false, inode: false, cost: false, output: Output { null: false, brief: false, escape: false } }, subjects: Files(["x"]) }"#,
     },
 ];
@@ -35,37 +24,37 @@ static USERS: [Asked; 3] = [
 static LISTS: [Asked; 7] = [
     Asked {
         name: "no source",
-        words: &["list"],
+        words: "list",
         request: r#"List { source: Directories(User) }"#,
     },
     Asked {
         name: "DIRS",
-        words: &["list", "-d", "b::a"],
+        words: "list -d b::a",
         request: r#"List { source: Directories(Named(["b", "a"])) }"#,
     },
     Asked {
         name: "long names",
-        words: &["list", "--data-dirs="],
+        words: "list --data-dirs=",
         request: r#"List { source: Directories(Named([])) }"#,
     },
     Asked {
         name: "usual words",
-        words: &["list", "-c", "c"],
+        words: "list -c c",
         request: r#"List { source: Cache("c") }"#,
     },
     Asked {
         name: "CACHE in the option's word",
-        words: &["list", "-cc/d"],
+        words: "list -cc/d",
         request: r#"List { source: Cache("c/d") }"#,
     },
     Asked {
         name: "empty CACHE",
-        words: &["list", "-c", ""],
+        words: "list -c ''",
         request: r#"List { source: Cache("") }"#,
     },
     Asked {
         name: "command's name",
-        words: &["list", "-c", "list"],
+        words: "list -c list",
         request: r#"List { source: Cache("list") }"#,
     },
 ];
@@ -73,22 +62,22 @@ static LISTS: [Asked; 7] = [
 static CHECKS: [Asked; 4] = [
     Asked {
         name: "no source",
-        words: &["check"],
+        words: "check",
         request: r#"Check { source: Directories(User) }"#,
     },
     Asked {
         name: "DIRS",
-        words: &["check", "-d", "b::a"],
+        words: "check -d b::a",
         request: r#"Check { source: Directories(Named(["b", "a"])) }"#,
     },
     Asked {
         name: "usual words",
-        words: &["check", "-c", "c"],
+        words: "check -c c",
         request: r#"Check { source: Cache("c") }"#,
     },
     Asked {
         name: "command's name",
-        words: &["check", "--cache", "check"],
+        words: "check --cache check",
         request: r#"Check { source: Cache("check") }"#,
     },
 ];
@@ -96,30 +85,22 @@ static CHECKS: [Asked; 4] = [
 static EXPLAINS: [Asked; 4] = [
     Asked {
         name: "no source",
-        words: &["explain", "a"],
+        words: "explain a",
         request: r#"Explain { source: Directories(User), options: Options { name_only: false, content_only: false, magic_first: false, all_globs: false, inode: false, cost: false, output: Output { null: false, brief: false, escape: false } }, files: ["a"] }"#,
     },
     Asked {
         name: "usual words",
-        words: &["explain", "-c", "c", "a", "b"],
+        words: "explain -c c a b",
         request: r#"Explain { source: Cache("c"), options: Options { name_only: false, content_only: false, magic_first: false, all_globs: false, inode: false, cost: false, output: Output { null: false, brief: false, escape: false } }, files: ["a", "b"] }"#,
     },
     Asked {
         name: "its options",
-        words: &[
-            "explain",
-            "--name-only",
-            "-d",
-            "b::a",
-            "--all-globs",
-            "a",
-            "--escape",
-        ],
+        words: "explain --name-only -d b::a --all-globs a --escape",
         request: r#"Explain { source: Directories(Named(["b", "a"])), options: Options { name_only: true, content_only: false, magic_first: false, all_globs: true, inode: false, cost: false, output: Output { null: false, brief: false, escape: true } }, files: ["a"] }"#,
     },
     Asked {
         name: "hyphens",
-        words: &["explain", "--magic-first", "--", "-c", "explain"],
+        words: "explain --magic-first -- -c explain",
         request: r#"Explain { source: Directories(User), options: Options { name_only: false, content_only: false, magic_first: true, all_globs: false, inode: false, cost: false, output: Output { null: false, brief: false, escape: false } }, files: ["-c", "explain"] }"#,
     },
 ];
@@ -127,42 +108,42 @@ static EXPLAINS: [Asked; 4] = [
 static IS_AS: [Asked; 8] = [
     Asked {
         name: "no source",
-        words: &["isa", "t/h", "t/m"],
+        words: "isa t/h t/m",
         request: r#"IsA { source: Directories(User), kind: "t/h", base: "t/m" }"#,
     },
     Asked {
         name: "DIRS between",
-        words: &["isa", "t/h", "-da", "t/m"],
+        words: "isa t/h -da t/m",
         request: r#"IsA { source: Directories(Named(["a"])), kind: "t/h", base: "t/m" }"#,
     },
     Asked {
         name: "usual words",
-        words: &["isa", "-c", "c", "t/h", "t/m"],
+        words: "isa -c c t/h t/m",
         request: r#"IsA { source: Cache("c"), kind: "t/h", base: "t/m" }"#,
     },
     Asked {
         name: "-c last",
-        words: &["isa", "t/h", "t/m", "-c", "c"],
+        words: "isa t/h t/m -c c",
         request: r#"IsA { source: Cache("c"), kind: "t/h", base: "t/m" }"#,
     },
     Asked {
         name: "-c between",
-        words: &["isa", "t/h", "-cc", "t/m"],
+        words: "isa t/h -cc t/m",
         request: r#"IsA { source: Cache("c"), kind: "t/h", base: "t/m" }"#,
     },
     Asked {
         name: "words that are no types",
-        words: &["isa", "-c", "c", "h", ""],
+        words: "isa -c c h ''",
         request: r#"IsA { source: Cache("c"), kind: "h", base: "" }"#,
     },
     Asked {
         name: "hyphens",
-        words: &["isa", "-c", "c", "--", "-h", "--cost"],
+        words: "isa -c c -- -h --cost",
         request: r#"IsA { source: Cache("c"), kind: "-h", base: "--cost" }"#,
     },
     Asked {
         name: "command's name",
-        words: &["isa", "-c", "isa", "isa", "isa"],
+        words: "isa -c isa isa isa",
         request: r#"IsA { source: Cache("isa"), kind: "isa", base: "isa" }"#,
     },
 ];
@@ -170,184 +151,154 @@ static IS_AS: [Asked; 8] = [
 static ICONS: [Asked; 5] = [
     Asked {
         name: "no source",
-        words: &["icon", "t/h"],
+        words: "icon t/h",
         request: r#"Icon { source: Directories(User), kind: "t/h" }"#,
     },
     Asked {
         name: "DIRS",
-        words: &["icon", "-d", "a", "t/h"],
+        words: "icon -d a t/h",
         request: r#"Icon { source: Directories(Named(["a"])), kind: "t/h" }"#,
     },
     Asked {
         name: "usual words",
-        words: &["icon", "-c", "c", "t/h"],
+        words: "icon -c c t/h",
         request: r#"Icon { source: Cache("c"), kind: "t/h" }"#,
     },
     Asked {
         name: "-c last",
-        words: &["icon", "t/h", "-c", "c"],
+        words: "icon t/h -c c",
         request: r#"Icon { source: Cache("c"), kind: "t/h" }"#,
     },
     Asked {
         name: "a word that is no type",
-        words: &["icon", "-c", "c", "h"],
+        words: "icon -c c h",
         request: r#"Icon { source: Cache("c"), kind: "h" }"#,
     },
 ];
 
-static TYPES: [Asked; 23] = [
+static OUTPUTS: [Asked; 4] = [
     Asked {
         name: "zero bytes and TYPE alone",
-        words: &["type", "-0b", "-c", "c", "x"],
+        words: "type -0b -c c x",
         request: r#"Type { source: Cache("c"), options: Options { name_only: false, content_only: false, magic_first: false, all_globs: false, inode: false, cost: false, output: Output { null: true, brief: true, escape: false } }, subjects: Files(["x"]) }"#,
     },
     Asked {
         name: "the same in long",
-        words: &["type", "-c", "c", "--brief", "--null", "x"],
+        words: "type -c c --brief --null x",
         request: r#"Type { source: Cache("c"), options: Options { name_only: false, content_only: false, magic_first: false, all_globs: false, inode: false, cost: false, output: Output { null: true, brief: true, escape: false } }, subjects: Files(["x"]) }"#,
     },
     Asked {
         name: "escapes and cost",
-        words: &["type", "--escape", "-c", "c", "--cost", "x"],
+        words: "type --escape -c c --cost x",
         request: r#"Type { source: Cache("c"), options: Options { name_only: false, content_only: false, magic_first: false, all_globs: false, inode: false, cost: true, output: Output { null: false, brief: false, escape: true } }, subjects: Files(["x"]) }"#,
     },
     Asked {
         name: "escapes and TYPE alone",
-        words: &["plain", "-d", "", "-b", "--escape", "x"],
+        words: "plain -d '' -b --escape x",
         request: r#"Plain { directories: Named([]), options: Options { name_only: false, content_only: false, magic_first: false, all_globs: false, inode: false, cost: false, output: Output { null: false, brief: true, escape: true } }, subjects: Files(["x"]) }"#,
     },
+];
+
+static ORDERS: [Asked; 11] = [
     Asked {
         name: "no source",
-        words: &["type", "x"],
+        words: "type x",
         request: r#"Type { source: Directories(User), options: Options { name_only: false, content_only: false, magic_first: false, all_globs: false, inode: false, cost: false, output: Output { null: false, brief: false, escape: false } }, subjects: Files(["x"]) }"#,
     },
     Asked {
         name: "DIRS",
-        words: &["type", "-d", "a", "--cost", "x"],
+        words: "type -d a --cost x",
         request: r#"Type { source: Directories(Named(["a"])), options: Options { name_only: false, content_only: false, magic_first: false, all_globs: false, inode: false, cost: true, output: Output { null: false, brief: false, escape: false } }, subjects: Files(["x"]) }"#,
     },
     Asked {
         name: "CACHE in long",
-        words: &["type", "--cache", "c", "x"],
+        words: "type --cache c x",
         request: r#"Type { source: Cache("c"), options: Options { name_only: false, content_only: false, magic_first: false, all_globs: false, inode: false, cost: false, output: Output { null: false, brief: false, escape: false } }, subjects: Files(["x"]) }"#,
     },
     Asked {
         name: "no flag",
-        words: &["type", "-c", "c", "x", "y"],
+        words: "type -c c x y",
         request: r#"Type { source: Cache("c"), options: Options { name_only: false, content_only: false, magic_first: false, all_globs: false, inode: false, cost: false, output: Output { null: false, brief: false, escape: false } }, subjects: Files(["x", "y"]) }"#,
     },
     Asked {
         name: "names alone",
-        words: &["type", "-c", "c", "--name-only", "x"],
+        words: "type -c c --name-only x",
         request: r#"Type { source: Cache("c"), options: Options { name_only: true, content_only: false, magic_first: false, all_globs: false, inode: false, cost: false, output: Output { null: false, brief: false, escape: false } }, subjects: Files(["x"]) }"#,
     },
     Asked {
         name: "contents alone",
-        words: &["type", "--content-only", "-c", "c", "--cost", "x"],
+        words: "type --content-only -c c --cost x",
         request: r#"Type { source: Cache("c"), options: Options { name_only: false, content_only: true, magic_first: false, all_globs: false, inode: false, cost: true, output: Output { null: false, brief: false, escape: false } }, subjects: Files(["x"]) }"#,
     },
     Asked {
         name: "contents alone by text files",
-        words: &["plain", "-d", "a", "x", "--content-only"],
+        words: "plain -d a x --content-only",
         request: r#"Plain { directories: Named(["a"]), options: Options { name_only: false, content_only: true, magic_first: false, all_globs: false, inode: false, cost: false, output: Output { null: false, brief: false, escape: false } }, subjects: Files(["x"]) }"#,
     },
     Asked {
         name: "cost",
-        words: &["type", "-c", "c", "--cost", "x"],
+        words: "type -c c --cost x",
         request: r#"Type { source: Cache("c"), options: Options { name_only: false, content_only: false, magic_first: false, all_globs: false, inode: false, cost: true, output: Output { null: false, brief: false, escape: false } }, subjects: Files(["x"]) }"#,
     },
     Asked {
         name: "magic first",
-        words: &["type", "-c", "c", "--magic-first", "x"],
+        words: "type -c c --magic-first x",
         request: r#"Type { source: Cache("c"), options: Options { name_only: false, content_only: false, magic_first: true, all_globs: false, inode: false, cost: false, output: Output { null: false, brief: false, escape: false } }, subjects: Files(["x"]) }"#,
     },
     Asked {
         name: "all globs",
-        words: &["type", "-c", "c", "--all-globs", "x"],
+        words: "type -c c --all-globs x",
         request: r#"Type { source: Cache("c"), options: Options { name_only: false, content_only: false, magic_first: false, all_globs: true, inode: false, cost: false, output: Output { null: false, brief: false, escape: false } }, subjects: Files(["x"]) }"#,
     },
     Asked {
         name: "inode",
-        words: &["type", "-c", "c", "--inode", "x"],
+        words: "type -c c --inode x",
         request: r#"Type { source: Cache("c"), options: Options { name_only: false, content_only: false, magic_first: false, all_globs: false, inode: true, cost: false, output: Output { null: false, brief: false, escape: false } }, subjects: Files(["x"]) }"#,
     },
+];
+
+static TYPES: [Asked; 8] = [
     Asked {
         name: "standard input",
-        words: &["type", "-c", "c", "--stdin", "x"],
+        words: "type -c c --stdin x",
         request: r#"Type { source: Cache("c"), options: Options { name_only: false, content_only: false, magic_first: false, all_globs: false, inode: false, cost: false, output: Output { null: false, brief: false, escape: false } }, subjects: Input("x") }"#,
     },
     Asked {
         name: "files of a list",
-        words: &["type", "-c", "c", "--files0-from", "x"],
+        words: "type -c c --files0-from x",
         request: r#"Type { source: Cache("c"), options: Options { name_only: false, content_only: false, magic_first: false, all_globs: false, inode: false, cost: false, output: Output { null: false, brief: false, escape: false } }, subjects: List("x") }"#,
     },
     Asked {
         name: "all flags",
-        words: &[
-            "type",
-            "-c",
-            "c",
-            "--name-only",
-            "--cost",
-            "--magic-first",
-            "x",
-        ],
+        words: "type -c c --name-only --cost --magic-first x",
         request: r#"Type { source: Cache("c"), options: Options { name_only: true, content_only: false, magic_first: true, all_globs: false, inode: false, cost: true, output: Output { null: false, brief: false, escape: false } }, subjects: Files(["x"]) }"#,
     },
     Asked {
         name: "flags the other way round",
-        words: &[
-            "type",
-            "--magic-first",
-            "--cost",
-            "--name-only",
-            "-c",
-            "c",
-            "x",
-        ],
+        words: "type --magic-first --cost --name-only -c c x",
         request: r#"Type { source: Cache("c"), options: Options { name_only: true, content_only: false, magic_first: true, all_globs: false, inode: false, cost: true, output: Output { null: false, brief: false, escape: false } }, subjects: Files(["x"]) }"#,
     },
     Asked {
         name: "options last",
-        words: &["type", "x", "y", "--cost", "-cc/d"],
+        words: "type x y --cost -cc/d",
         request: r#"Type { source: Cache("c/d"), options: Options { name_only: false, content_only: false, magic_first: false, all_globs: false, inode: false, cost: true, output: Output { null: false, brief: false, escape: false } }, subjects: Files(["x", "y"]) }"#,
     },
     Asked {
         name: "hyphens",
-        words: &["type", "-c", "c", "--", "-x", "--"],
+        words: "type -c c -- -x --",
         request: r#"Type { source: Cache("c"), options: Options { name_only: false, content_only: false, magic_first: false, all_globs: false, inode: false, cost: false, output: Output { null: false, brief: false, escape: false } }, subjects: Files(["-x", "--"]) }"#,
     },
     Asked {
         name: "command's name",
-        words: &["type", "-c", "type", "type"],
+        words: "type -c type type",
         request: r#"Type { source: Cache("type"), options: Options { name_only: false, content_only: false, magic_first: false, all_globs: false, inode: false, cost: false, output: Output { null: false, brief: false, escape: false } }, subjects: Files(["type"]) }"#,
     },
     Asked {
         name: "empty FILE",
-        words: &["type", "-c", "c", ""],
+        words: "type -c c ''",
         request: r#"Type { source: Cache("c"), options: Options { name_only: false, content_only: false, magic_first: false, all_globs: false, inode: false, cost: false, output: Output { null: false, brief: false, escape: false } }, subjects: Files([""]) }"#,
     },
 ];
-
-/// The request of words, as `Debug` writes it, or what is said of them.
-fn answer_to(alloc: Global, words: &[&str]) -> Result<String, Fail> {
-    Ok(match request_of(alloc, words) {
-        Ok(request) => shown(alloc, &request)?,
-        Err(error) => error.to_string(alloc)?,
-    })
-}
-
-fn shown(alloc: Global, request: &Request) -> Result<String, Fail> {
-    Ok(format!(in alloc; "{request:?}")?)
-}
-
-fn asks(rt: &impl Abort, alloc: Global, rows: &[Asked]) -> Result<(), Fail> {
-    for row in rows {
-        let found = answer_to(alloc, row.words)?;
-        alike(rt, row.name, found.as_str(), row.request);
-    }
-    Ok(())
-}
 
 #[test]
 fn asks_for_the_users_directories(rt: HostRuntime) -> Result<(), Fail> {
@@ -377,6 +328,16 @@ fn asks_whether_a_type_is_another(rt: HostRuntime) -> Result<(), Fail> {
 #[test]
 fn asks_for_icons(rt: HostRuntime) -> Result<(), Fail> {
     asks(&rt, rt.alloc(), &ICONS)
+}
+
+#[test]
+fn asks_for_output_by_a_cache(rt: HostRuntime) -> Result<(), Fail> {
+    asks(&rt, rt.alloc(), &OUTPUTS)
+}
+
+#[test]
+fn asks_for_orders_by_a_cache(rt: HostRuntime) -> Result<(), Fail> {
+    asks(&rt, rt.alloc(), &ORDERS)
 }
 
 #[test]

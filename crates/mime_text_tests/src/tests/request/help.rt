@@ -2,10 +2,9 @@
 //!
 //! The tests of the program hold each help whole.
 
+use super::answer_to;
 use crate::tests::checked::alike;
 use clap::error::ErrorKind;
-use mime_request::request_of;
-use std::alloc::Global;
 use std::test::Fail;
 
 const OF_MIMELOOK: &str = "Tells the MIME types of files";
@@ -29,97 +28,94 @@ const OF_TYPE: &str = "Prints FILE: TYPE for each FILE, by a cache";
 /// Words, and the first line of the help that answers them.
 struct Help {
     name: &'static str,
-    words: &'static [&'static str],
+    words: &'static str,
     first_line: &'static str,
 }
 
 static HELPS: [Help; 14] = [
     Help {
         name: "help",
-        words: &["--help"],
+        words: "--help",
         first_line: OF_MIMELOOK,
     },
     Help {
         name: "short help",
-        words: &["-h"],
+        words: "-h",
         first_line: OF_MIMELOOK,
     },
     Help {
         name: "help before version",
-        words: &["--help", "--version"],
+        words: "--help --version",
         first_line: OF_MIMELOOK,
     },
     Help {
         name: "help as a command",
-        words: &["help"],
+        words: "help",
         first_line: OF_MIMELOOK,
     },
     Help {
         name: "help before a command",
-        words: &["help", "isa"],
+        words: "help isa",
         first_line: OF_IS_A,
     },
     Help {
         name: "help of plain",
-        words: &["plain", "--help"],
+        words: "plain --help",
         first_line: OF_PLAIN,
     },
     Help {
         name: "help after a FILE",
-        words: &["plain", "x", "-h"],
+        words: "plain x -h",
         first_line: OF_PLAIN,
     },
     Help {
         name: "help of build",
-        words: &["build", "--help"],
+        words: "build --help",
         first_line: OF_BUILD,
     },
     Help {
         name: "help of list",
-        words: &["list", "--help"],
+        words: "list --help",
         first_line: OF_LIST,
     },
     Help {
         name: "help of check",
-        words: &["check", "--help"],
+        words: "check --help",
         first_line: OF_CHECK,
     },
     Help {
         name: "help of explain",
-        words: &["explain", "--help"],
+        words: "explain --help",
         first_line: OF_EXPLAIN,
     },
     Help {
         name: "help of isa",
-        words: &["isa", "--help"],
+        words: "isa --help",
         first_line: OF_IS_A,
     },
     Help {
         name: "help after a TYPE",
-        words: &["icon", "t/h", "-h"],
+        words: "icon t/h -h",
         first_line: OF_ICON,
     },
     Help {
         name: "help after -c",
-        words: &["type", "-c", "c", "--help"],
+        words: "type -c c --help",
         first_line: OF_TYPE,
     },
 ];
 
-/// The kind of error that answers words, and its text; or none, if they are a request.
-fn answered(alloc: Global, words: &[&str]) -> Result<Option<(ErrorKind, String)>, Fail> {
-    Ok(match request_of(alloc, words) {
-        Ok(_) => None,
-        Err(error) => Some((error.kind(), error.to_string(alloc)?)),
-    })
-}
-
 #[test]
 fn shows_the_help_of_a_command(rt: HostRuntime) -> Result<(), Fail> {
     for row in &HELPS {
-        let (kind, text) = answered(rt.alloc(), row.words)?.ok_or("a request")?;
-        alike(&rt, row.name, kind, ErrorKind::DisplayHelp);
-        alike(&rt, row.name, text.lines().next(), Some(row.first_line));
+        let answer = answer_to(rt.alloc(), row.words)?;
+        alike(&rt, row.name, answer.kind, Some(ErrorKind::DisplayHelp));
+        alike(
+            &rt,
+            row.name,
+            answer.text.lines().next(),
+            Some(row.first_line),
+        );
     }
     Ok(())
 }

@@ -4,9 +4,9 @@
 
 mod over_caches;
 
+use super::answer_to;
 use crate::tests::checked::alike;
 use clap::error::ErrorKind;
-use mime_request::request_of;
 use std::alloc::Global;
 use std::process::Abort;
 use std::test::Fail;
@@ -14,182 +14,183 @@ use std::test::Fail;
 /// Words, and the kind of error that answers them.
 struct Refused {
     name: &'static str,
-    words: &'static [&'static str],
+    words: &'static str,
     kind: ErrorKind,
 }
 
 static REFUSED: [Refused; 31] = [
     Refused {
         name: "escapes with zero bytes",
-        words: &["plain", "--escape", "-0", "x"],
+        words: "plain --escape -0 x",
         kind: ErrorKind::ArgumentConflict,
     },
     Refused {
         name: "cost with zero bytes",
-        words: &["type", "--cost", "--null", "x"],
+        words: "type --cost --null x",
         kind: ErrorKind::ArgumentConflict,
     },
     Refused {
         name: "cost with TYPE alone",
-        words: &["type", "-b", "--cost", "x"],
+        words: "type -b --cost x",
         kind: ErrorKind::ArgumentConflict,
     },
     Refused {
         name: "contents alone and names alone",
-        words: &["type", "--name-only", "--content-only", "x"],
+        words: "type --name-only --content-only x",
         kind: ErrorKind::ArgumentConflict,
     },
     Refused {
         name: "contents alone in an order",
-        words: &["plain", "--content-only", "--magic-first", "x"],
+        words: "plain --content-only --magic-first x",
         kind: ErrorKind::ArgumentConflict,
     },
     Refused {
         name: "contents alone and all globs",
-        words: &["type", "--all-globs", "--content-only", "x"],
+        words: "type --all-globs --content-only x",
         kind: ErrorKind::ArgumentConflict,
     },
     Refused {
         name: "two orders",
-        words: &["plain", "--magic-first", "--all-globs", "x"],
+        words: "plain --magic-first --all-globs x",
         kind: ErrorKind::ArgumentConflict,
     },
     Refused {
         name: "a short flag and its long one",
-        words: &["plain", "-0", "--null", "x"],
+        words: "plain -0 --null x",
         kind: ErrorKind::ArgumentConflict,
     },
     Refused {
         name: "no words",
-        words: &[],
+        words: "",
         kind: ErrorKind::MissingSubcommand,
     },
     Refused {
         name: "unknown command",
-        words: &["sniff", "x"],
+        words: "sniff x",
         kind: ErrorKind::InvalidSubcommand,
     },
     Refused {
         name: "help of an unknown command",
-        words: &["help", "sniff"],
+        words: "help sniff",
         kind: ErrorKind::InvalidSubcommand,
     },
     Refused {
         name: "short version of isa",
-        words: &["isa", "-V"],
+        words: "isa -V",
         kind: ErrorKind::DisplayVersion,
     },
     Refused {
         name: "version",
-        words: &["--version"],
+        words: "--version",
         kind: ErrorKind::DisplayVersion,
     },
     Refused {
         name: "short version",
-        words: &["-V"],
+        words: "-V",
         kind: ErrorKind::DisplayVersion,
     },
     Refused {
         name: "version of plain",
-        words: &["plain", "--version"],
+        words: "plain --version",
         kind: ErrorKind::DisplayVersion,
     },
     Refused {
         name: "no FILE",
-        words: &["plain", "--name-only", "-d", ""],
+        words: "plain --name-only -d ''",
         kind: ErrorKind::MissingRequiredArgument,
     },
     Refused {
         name: "-d without DIRS",
-        words: &["plain", "--name-only", "x", "-d"],
+        words: "plain --name-only x -d",
         kind: ErrorKind::InvalidValue,
     },
     Refused {
         name: "no words after build",
-        words: &["build"],
+        words: "build",
         kind: ErrorKind::MissingRequiredArgument,
     },
     Refused {
         name: "no -o",
-        words: &["build", "-d", "a"],
+        words: "build -d a",
         kind: ErrorKind::MissingRequiredArgument,
     },
     Refused {
         name: "-o without FILE",
-        words: &["build", "-d", "a", "-o"],
+        words: "build -d a -o",
         kind: ErrorKind::InvalidValue,
     },
     Refused {
         name: "-o twice",
-        words: &["build", "-d", "a", "-o", "c", "-o", "c"],
+        words: "build -d a -o c -o c",
         kind: ErrorKind::ArgumentConflict,
     },
     Refused {
         name: "a word too many",
-        words: &["build", "-d", "a", "-o", "c", "x"],
+        words: "build -d a -o c x",
         kind: ErrorKind::UnknownArgument,
     },
     Refused {
         name: "an option of plain",
-        words: &["build", "-d", "a", "-o", "c", "--name-only"],
+        words: "build -d a -o c --name-only",
         kind: ErrorKind::UnknownArgument,
     },
     Refused {
         name: "an option of build",
-        words: &["plain", "-d", "a", "-o", "c", "x"],
+        words: "plain -d a -o c x",
         kind: ErrorKind::UnknownArgument,
     },
     Refused {
         name: "no words after plain",
-        words: &["plain"],
+        words: "plain",
         kind: ErrorKind::MissingRequiredArgument,
     },
     Refused {
         name: "-d twice",
-        words: &["plain", "-d", "a", "-d", "a", "--name-only", "x"],
+        words: "plain -d a -d a --name-only x",
         kind: ErrorKind::ArgumentConflict,
     },
     Refused {
         name: "flag twice",
-        words: &["plain", "--name-only", "-d", "a", "--name-only", "x"],
+        words: "plain --name-only -d a --name-only x",
         kind: ErrorKind::ArgumentConflict,
     },
     Refused {
         name: "the other flag twice",
-        words: &["plain", "--magic-first", "--magic-first", "-d", "a", "x"],
+        words: "plain --magic-first --magic-first -d a x",
         kind: ErrorKind::ArgumentConflict,
     },
     Refused {
         name: "flag with a value",
-        words: &["plain", "-d", "a", "--magic-first=true", "x"],
+        words: "plain -d a --magic-first=true x",
         kind: ErrorKind::TooManyValues,
     },
     Refused {
         name: "unknown option",
-        words: &["plain", "-d", "a", "--names", "x"],
+        words: "plain -d a --names x",
         kind: ErrorKind::UnknownArgument,
     },
     Refused {
         name: "FILE with a hyphen",
-        words: &["plain", "-d", "a", "--name-only", "-x"],
+        words: "plain -d a --name-only -x",
         kind: ErrorKind::UnknownArgument,
     },
 ];
 
-/// The kind of error that answers words, or none, if they are a request.
-fn kind_of(alloc: Global, words: &[&str]) -> Option<ErrorKind> {
-    request_of(alloc, words).err().map(|error| error.kind())
-}
-
-fn are_refused(rt: &impl Abort, alloc: Global, rows: &[Refused]) {
+fn are_refused(rt: &impl Abort, alloc: Global, rows: &[Refused]) -> Result<(), Fail> {
     for row in rows {
-        alike(rt, row.name, kind_of(alloc, row.words), Some(row.kind));
+        alike(
+            rt,
+            row.name,
+            answer_to(alloc, row.words)?.kind,
+            Some(row.kind),
+        );
     }
+    Ok(())
 }
 
 #[test]
-fn refuses_by_kind(rt: HostRuntime) {
-    are_refused(&rt, rt.alloc(), &REFUSED);
+fn refuses_by_kind(rt: HostRuntime) -> Result<(), Fail> {
+    are_refused(&rt, rt.alloc(), &REFUSED)
 }
 
 const UNKNOWN_COMMAND: &str = "\
@@ -216,36 +217,28 @@ For more information, try '--help'.
 /// Words, and the whole text that answers them.
 struct Mistake {
     name: &'static str,
-    words: &'static [&'static str],
+    words: &'static str,
     text: &'static str,
 }
 
 static MISTAKES: [Mistake; 2] = [
     Mistake {
         name: "unknown command",
-        words: &["sniff", "x"],
+        words: "sniff x",
         text: UNKNOWN_COMMAND,
     },
     Mistake {
         name: "unknown option",
-        words: &["plain", "-d", "a", "--names", "x"],
+        words: "plain -d a --names x",
         text: SIMILAR_OPTION,
     },
 ];
 
-/// The text that answers words, or none, if they are a request.
-fn text_of(alloc: Global, words: &[&str]) -> Result<Option<String>, Fail> {
-    Ok(match request_of(alloc, words) {
-        Ok(_) => None,
-        Err(error) => Some(error.to_string(alloc)?),
-    })
-}
-
 #[test]
 fn says_what_is_wrong(rt: HostRuntime) -> Result<(), Fail> {
     for row in &MISTAKES {
-        let text = text_of(rt.alloc(), row.words)?.ok_or("a request")?;
-        alike(&rt, row.name, text.as_str(), row.text);
+        let answer = answer_to(rt.alloc(), row.words)?;
+        alike(&rt, row.name, answer.text.as_str(), row.text);
     }
     Ok(())
 }

@@ -1,268 +1,199 @@
 //! What words ask for: a cache that is built, or the types of files.
 
-use clap::Error;
-use mime_request::{Directories, Request, Subjects, request_of};
-use std::process::Abort;
+use super::{Asked, answer_to, asks};
+use crate::tests::checked::alike;
+use std::alloc::Global;
+use std::test::Fail;
 
-#[derive(Clone, Copy)]
-struct Built {
-    name: &'static str,
-    words: &'static [&'static str],
-    directories: &'static [&'static str],
-    drop_twins: bool,
-    file: &'static str,
-}
-
-static BUILT: [Built; 11] = [
-    Built {
+static BUILT: [Asked; 11] = [
+    Asked {
         name: "long names",
-        words: &["build", "--output", "c", "--data-dirs=b:a"],
-        directories: &["b", "a"],
-        drop_twins: false,
-        file: "c",
+        words: "build --output c --data-dirs=b:a",
+        request: r#"Build { directories: Named(["b", "a"]), drop_twins: false, file: "c" }"#,
     },
-    Built {
+    Asked {
         name: "two directories",
-        words: &["build", "-d", "b:a", "-o", "c"],
-        directories: &["b", "a"],
-        drop_twins: false,
-        file: "c",
+        words: "build -d b:a -o c",
+        request: r#"Build { directories: Named(["b", "a"]), drop_twins: false, file: "c" }"#,
     },
-    Built {
+    Asked {
         name: "no directory",
-        words: &["build", "-d", "", "-o", "c"],
-        directories: &[],
-        drop_twins: false,
-        file: "c",
+        words: "build -d '' -o c",
+        request: r#"Build { directories: Named([]), drop_twins: false, file: "c" }"#,
     },
-    Built {
+    Asked {
         name: "output first",
-        words: &["build", "-o", "c", "-d", "a"],
-        directories: &["a"],
-        drop_twins: false,
-        file: "c",
+        words: "build -o c -d a",
+        request: r#"Build { directories: Named(["a"]), drop_twins: false, file: "c" }"#,
     },
-    Built {
+    Asked {
         name: "values in the options' words",
-        words: &["build", "-da:b", "-oc/d"],
-        directories: &["a", "b"],
-        drop_twins: false,
-        file: "c/d",
+        words: "build -da:b -oc/d",
+        request: r#"Build { directories: Named(["a", "b"]), drop_twins: false, file: "c/d" }"#,
     },
-    Built {
+    Asked {
         name: "colon in FILE",
-        words: &["build", "-d", "a", "-o", "c:d"],
-        directories: &["a"],
-        drop_twins: false,
-        file: "c:d",
+        words: "build -d a -o c:d",
+        request: r#"Build { directories: Named(["a"]), drop_twins: false, file: "c:d" }"#,
     },
-    Built {
+    Asked {
         name: "empty FILE",
-        words: &["build", "-d", "a", "-o", ""],
-        directories: &["a"],
-        drop_twins: false,
-        file: "",
+        words: "build -d a -o ''",
+        request: r#"Build { directories: Named(["a"]), drop_twins: false, file: "" }"#,
     },
-    Built {
+    Asked {
         name: "command's name",
-        words: &["build", "-d", "build", "-o", "build"],
-        directories: &["build"],
-        drop_twins: false,
-        file: "build",
+        words: "build -d build -o build",
+        request: r#"Build { directories: Named(["build"]), drop_twins: false, file: "build" }"#,
     },
-    Built {
+    Asked {
         name: "no twins",
-        words: &["build", "--drop-twins", "-d", "a", "-o", "c"],
-        directories: &["a"],
-        drop_twins: true,
-        file: "c",
+        words: "build --drop-twins -d a -o c",
+        request: r#"Build { directories: Named(["a"]), drop_twins: true, file: "c" }"#,
     },
-    Built {
+    Asked {
         name: "no twins, said between",
-        words: &["build", "-o", "c", "--drop-twins", "-d", "a"],
-        directories: &["a"],
-        drop_twins: true,
-        file: "c",
+        words: "build -o c --drop-twins -d a",
+        request: r#"Build { directories: Named(["a"]), drop_twins: true, file: "c" }"#,
     },
-    Built {
+    Asked {
         name: "no twins, said last",
-        words: &["build", "-o", "c", "-d", "a", "--drop-twins"],
-        directories: &["a"],
-        drop_twins: true,
-        file: "c",
+        words: "build -o c -d a --drop-twins",
+        request: r#"Build { directories: Named(["a"]), drop_twins: true, file: "c" }"#,
     },
 ];
 
-/// Whether these directories are named.
-fn are_named(directories: &Directories<'_>, wanted: &[&str]) -> bool {
-    match directories {
-        Directories::Named(found) => found.as_slice() == wanted,
-        Directories::User => false,
-    }
-}
-
-/// Whether a request is the one of a row.
-fn is_built(row: &Built, request: &Request<'_>) -> bool {
-    match request {
-        Request::Build {
-            directories,
-            drop_twins,
-            file,
-        } => {
-            are_named(directories, row.directories)
-                && *drop_twins == row.drop_twins
-                && *file == row.file
-        }
-        _ => false,
-    }
-}
-
-/// A request is the one that is wanted, or the test fails.
-fn is_wanted(rt: &impl Abort, name: &str, request: &Request<'_>, wanted: bool) {
-    assert!(rt; wanted, "{name}: {request:?}");
-}
-
-/// Words are refused that ask for something.
-fn is_refused(rt: &impl Abort, name: &str, error: &Error) {
-    assert!(rt; false, "{name}: {error}");
-}
-
 #[test]
-fn asks_for_a_cache(rt: HostRuntime) {
-    for row in &BUILT {
-        match request_of(rt.alloc(), row.words) {
-            Ok(request) => is_wanted(&rt, row.name, &request, is_built(row, &request)),
-            Err(error) => is_refused(&rt, row.name, &error),
-        }
-    }
+fn asks_for_a_cache(rt: HostRuntime) -> Result<(), Fail> {
+    asks(&rt, rt.alloc(), &BUILT)
 }
 
-#[derive(Clone, Copy)]
-struct Asked {
+/// Words, and what of a request for the types of files they ask.
+struct Plain {
     name: &'static str,
-    words: &'static [&'static str],
+    words: &'static str,
     directories: &'static [&'static str],
     name_only: bool,
     magic_first: bool,
     files: &'static [&'static str],
 }
 
-static ASKED: [Asked; 15] = [
-    Asked {
+static PLAIN: [Plain; 15] = [
+    Plain {
         name: "no directory",
-        words: &["plain", "--name-only", "-d", "", "a"],
+        words: "plain --name-only -d '' a",
         directories: &[],
         name_only: true,
         magic_first: false,
         files: &["a"],
     },
-    Asked {
+    Plain {
         name: "one directory",
-        words: &["plain", "-d", "a", "x", "y"],
+        words: "plain -d a x y",
         directories: &["a"],
         name_only: false,
         magic_first: false,
         files: &["x", "y"],
     },
-    Asked {
+    Plain {
         name: "several directories",
-        words: &["plain", "-d", "b:a:b", "x"],
+        words: "plain -d b:a:b x",
         directories: &["b", "a", "b"],
         name_only: false,
         magic_first: false,
         files: &["x"],
     },
-    Asked {
+    Plain {
         name: "empty parts",
-        words: &["plain", "-d", ":a::b:", "x"],
+        words: "plain -d :a::b: x",
         directories: &["a", "b"],
         name_only: false,
         magic_first: false,
         files: &["x"],
     },
-    Asked {
+    Plain {
         name: "empty parts alone",
-        words: &["plain", "-d", "::", "x"],
+        words: "plain -d :: x",
         directories: &[],
         name_only: false,
         magic_first: false,
         files: &["x"],
     },
-    Asked {
+    Plain {
         name: "names alone",
-        words: &["plain", "-d", "a", "--name-only", "x"],
+        words: "plain -d a --name-only x",
         directories: &["a"],
         name_only: true,
         magic_first: false,
         files: &["x"],
     },
-    Asked {
+    Plain {
         name: "magic first",
-        words: &["plain", "-d", "a", "--magic-first", "x"],
+        words: "plain -d a --magic-first x",
         directories: &["a"],
         name_only: false,
         magic_first: true,
         files: &["x"],
     },
-    Asked {
+    Plain {
         name: "both flags",
-        words: &["plain", "-d", "a", "--name-only", "--magic-first", "x"],
+        words: "plain -d a --name-only --magic-first x",
         directories: &["a"],
         name_only: true,
         magic_first: true,
         files: &["x"],
     },
-    Asked {
+    Plain {
         name: "flags the other way round",
-        words: &["plain", "--magic-first", "--name-only", "-d", "a", "x"],
+        words: "plain --magic-first --name-only -d a x",
         directories: &["a"],
         name_only: true,
         magic_first: true,
         files: &["x"],
     },
-    Asked {
+    Plain {
         name: "a flag before and one after",
-        words: &["plain", "--magic-first", "-d", "a", "--name-only", "x"],
+        words: "plain --magic-first -d a --name-only x",
         directories: &["a"],
         name_only: true,
         magic_first: true,
         files: &["x"],
     },
-    Asked {
+    Plain {
         name: "options last",
-        words: &["plain", "x", "y", "-da/b:c", "--magic-first"],
+        words: "plain x y -da/b:c --magic-first",
         directories: &["a/b", "c"],
         name_only: false,
         magic_first: true,
         files: &["x", "y"],
     },
-    Asked {
+    Plain {
         name: "hyphens",
-        words: &["plain", "-d", "a", "--", "-x", "--"],
+        words: "plain -d a -- -x --",
         directories: &["a"],
         name_only: false,
         magic_first: false,
         files: &["-x", "--"],
     },
-    Asked {
+    Plain {
         name: "one hyphen",
-        words: &["plain", "-d", "a", "--name-only", "-"],
+        words: "plain -d a --name-only -",
         directories: &["a"],
         name_only: true,
         magic_first: false,
         files: &["-"],
     },
-    Asked {
+    Plain {
         name: "command's name",
-        words: &["plain", "-d", "plain", "plain"],
+        words: "plain -d plain plain",
         directories: &["plain"],
         name_only: false,
         magic_first: false,
         files: &["plain"],
     },
-    Asked {
+    Plain {
         name: "empty FILE",
-        words: &["plain", "-d", "a", ""],
+        words: "plain -d a ''",
         directories: &["a"],
         name_only: false,
         magic_first: false,
@@ -270,38 +201,28 @@ static ASKED: [Asked; 15] = [
     },
 ];
 
-/// Whether just these files are looked up.
-fn are_files(subjects: &Subjects<'_>, files: &[&str]) -> bool {
-    match subjects {
-        Subjects::Files(found) => found.as_slice() == files,
-        Subjects::Input(_) | Subjects::List(_) => false,
-    }
-}
-
-/// Whether a request is the one of a row.
-fn is_asked(row: &Asked, request: &Request<'_>) -> bool {
-    match request {
-        Request::Plain {
-            directories,
-            options,
-            subjects,
-        } => {
-            are_named(directories, row.directories)
-                && options.name_only == row.name_only
-                && options.magic_first == row.magic_first
-                && !options.cost
-                && are_files(subjects, row.files)
-        }
-        _ => false,
-    }
+/// The request of a row, as `Debug` writes it.
+fn request_of_row(alloc: Global, row: &Plain) -> Result<String, Fail> {
+    let Plain {
+        directories,
+        name_only,
+        magic_first,
+        files,
+        ..
+    } = row;
+    Ok(format!(in alloc;
+        "Plain {{ directories: Named({directories:?}), options: Options {{ name_only: {name_only}, \
+        content_only: false, magic_first: {magic_first}, all_globs: false, inode: false, cost: false, \
+        output: Output {{ null: false, brief: false, escape: false }} }}, subjects: Files({files:?}) }}"
+    )?)
 }
 
 #[test]
-fn asks_for_files(rt: HostRuntime) {
-    for row in &ASKED {
-        match request_of(rt.alloc(), row.words) {
-            Ok(request) => is_wanted(&rt, row.name, &request, is_asked(row, &request)),
-            Err(error) => is_refused(&rt, row.name, &error),
-        }
+fn asks_for_files(rt: HostRuntime) -> Result<(), Fail> {
+    for row in &PLAIN {
+        let answer = answer_to(rt.alloc(), row.words)?;
+        let request = request_of_row(rt.alloc(), row)?;
+        alike(&rt, row.name, answer.text.as_str(), request.as_str());
     }
+    Ok(())
 }
