@@ -1,5 +1,7 @@
 mod base;
+mod caches;
 mod checked;
+mod lines;
 mod load;
 mod store;
 mod text;

@@ -34,8 +34,8 @@ fn openings(rt: HostRuntime) {
     for (name, bytes, fault, nodes) in rows {
         let mut meter = Meter::new();
         let opened = Cache::open(Counted::new(bytes), &mut meter);
-        alike(&rt, name, opened.err(), fault);
-        alike(&rt, name, (meter.nodes, meter.bytes), (nodes, 0));
+        let found = (opened.err(), meter.nodes, meter.bytes);
+        alike(&rt, name, found, (fault, nodes, 0));
     }
 }
 
@@ -105,7 +105,7 @@ fn has_extent(rt: &impl Abort, cache: &Cache<'_>, extent: u32) {
 }
 
 #[test]
-fn names_of_the_sample(rt: HostRuntime) -> Result<(), Fail> {
+fn names_of_the_sample(rt: HostRuntime) -> Result<(), CacheFault> {
     let mut meter = Meter::new();
     let cache = Cache::open(Counted::new(&SAMPLE), &mut meter)?;
     alike(&rt, "budget", Budget::of(&cache), WHOLE);
@@ -194,7 +194,7 @@ fn asked(call: &Call, cache: &Cache<'_>) -> Result<bool, CacheFault> {
 }
 
 #[test]
-fn damaged_lists(rt: HostRuntime) -> Result<(), Fail> {
+fn damaged_lists(rt: HostRuntime) -> Result<(), CacheFault> {
     for row in &DAMAGES {
         let bytes = damaged(row.at);
         let cache = Cache::open(Counted::new(&bytes), &mut Meter::new())?;

@@ -63,31 +63,28 @@ static ROWS: [Row; 38] = [
     (u64::MAX, b"ab", Err(ByteFault::OutOfRange(u64::MAX)), 0),
 ];
 
+fn table() -> &'static [Row] {
+    &ROWS
+}
+
 #[test]
 fn keys_of_each_length(rt: HostRuntime) {
     let cache = Counted::new(TEXTS);
-    for &(at, key, order, bytes) in &ROWS {
+    for &(at, key, order, bytes) in table() {
         let mut meter = Meter::new();
-        let found = cache.compare_text(at, key, &mut meter);
-        alike(&rt, "alone", (at, key, found), (at, key, order));
-        let counted = (meter.nodes, meter.bytes);
-        alike(&rt, "alone", (at, key, counted), (at, key, (0, bytes)));
+        let answer = cache.compare_text(at, key, &mut meter);
+        let found = (at, key, answer, meter.nodes, meter.bytes);
+        alike(&rt, "alone", found, (at, key, order, 0, bytes));
     }
 }
 
 #[test]
 fn keys_of_searches(rt: HostRuntime) {
     let cache = Counted::new(TEXTS);
-    for &(at, key, order, bytes) in &ROWS {
+    for &(at, key, order, bytes) in table() {
         let mut meter = Meter::new();
-        let found = cache.compare_key(at, &Key::new(key), &mut meter);
-        alike(&rt, "of a search", (at, key, found), (at, key, order));
-        let counted = (meter.nodes, meter.bytes);
-        alike(
-            &rt,
-            "of a search",
-            (at, key, counted),
-            (at, key, (0, bytes)),
-        );
+        let answer = cache.compare_key(at, &Key::new(key), &mut meter);
+        let found = (at, key, answer, meter.nodes, meter.bytes);
+        alike(&rt, "of a search", found, (at, key, order, 0, bytes));
     }
 }

@@ -11,8 +11,8 @@ fn are_read(rt: &impl Abort, cache: Counted<'_>, rows: &[Text]) {
     for row in rows {
         let mut meter = Meter::new();
         let text = cache.text_at(row.at, &mut meter);
-        alike(rt, row.name, text, row.text);
-        alike(rt, row.name, (meter.nodes, meter.bytes), (0, row.bytes));
+        let found = (text, meter.nodes, meter.bytes);
+        alike(rt, row.name, found, (row.text, 0, row.bytes));
     }
 }
 
@@ -82,10 +82,9 @@ fn orders_of_a_text(rt: HostRuntime) {
     let sample = Counted::new(&SAMPLE);
     for &(key, order, bytes) in &KEYS {
         let mut meter = Meter::new();
-        let found = sample.compare_text(224, key, &mut meter);
-        alike(&rt, "against a key", (key, found), (key, Ok(order)));
-        let counted = (meter.nodes, meter.bytes);
-        alike(&rt, "against a key", (key, counted), (key, (0, bytes)));
+        let answer = sample.compare_text(224, key, &mut meter);
+        let found = (key, answer, meter.nodes, meter.bytes);
+        alike(&rt, "against a key", found, (key, Ok(order), 0, bytes));
     }
 }
 
@@ -214,8 +213,8 @@ fn orders_of_the_longest_texts(rt: HostRuntime) {
     for row in &ORDERS {
         let mut meter = Meter::new();
         let order = cache.compare_text(row.at, row.key, &mut meter);
-        alike(&rt, row.name, order, row.order);
-        alike(&rt, row.name, (meter.nodes, meter.bytes), (0, row.bytes));
+        let found = (order, meter.nodes, meter.bytes);
+        alike(&rt, row.name, found, (row.order, 0, row.bytes));
     }
 }
 
@@ -250,14 +249,8 @@ static NAMES: [(&[u8], &[u8], bool, u64); 5] = [
 fn names_compared(rt: HostRuntime) {
     for &(left, right, same, bytes) in &NAMES {
         let mut meter = Meter::new();
-        let found = same_name(left, right, &mut meter);
-        alike(&rt, "names", (left, right, found), (left, right, same));
-        let counted = (meter.nodes, meter.bytes);
-        alike(
-            &rt,
-            "names",
-            (left, right, counted),
-            (left, right, (0, bytes)),
-        );
+        let answer = same_name(left, right, &mut meter);
+        let found = (left, right, answer, meter.nodes, meter.bytes);
+        alike(&rt, "names", found, (left, right, same, 0, bytes));
     }
 }

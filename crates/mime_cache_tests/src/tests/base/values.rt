@@ -22,8 +22,8 @@ fn sample_value(rt: HostRuntime) {
     for &(name, window, equal, bytes) in &OF_SAMPLE {
         let mut meter = Meter::new();
         let answer = sample.value_equals(236, 0, 2, 1, window, Host::Little, &mut meter);
-        alike(&rt, name, answer, Ok(equal));
-        alike(&rt, name, (meter.nodes, meter.bytes), (0, bytes));
+        let found = (answer, meter.nodes, meter.bytes);
+        alike(&rt, name, found, (Ok(equal), 0, bytes));
     }
 }
 
@@ -127,8 +127,8 @@ fn values_at_the_end(rt: HostRuntime) {
             Host::Big,
             &mut meter,
         );
-        alike(&rt, row.name, answer, row.answer);
-        alike(&rt, row.name, (meter.nodes, meter.bytes), (0, row.bytes));
+        let found = (answer, meter.nodes, meter.bytes);
+        alike(&rt, row.name, found, (row.answer, 0, row.bytes));
     }
 }
 

@@ -1,13 +1,14 @@
 //! Caches that were written are read back, with as many members as their texts have lines.
 
 use super::{counts, name_counts};
+use crate::tests::caches::written;
 use crate::tests::checked::alike;
+use crate::tests::lines::add_rule;
 use mime_base::{Counted, LARGEST_CACHE, Meter};
-use mime_load::{Part, read_names};
+use mime_load::{Leaves, Part, read_names};
 use mime_samples::caches::{SAMPLE, write_at};
-use mime_samples::texts::{EMPTY, SAMPLE_TEXTS, Texts, merged};
-use mime_store::write_cache;
-use std::alloc::Global;
+use mime_samples::texts::{EMPTY, SAMPLE_TEXTS, Texts};
+use std::alloc::{AllocError, Global};
 use std::test::Fail;
 
 /// A directory, and how many members each list has.
@@ -56,40 +57,30 @@ static ROWS: [Row; 5] = [
     },
 ];
 
-/// What is read back of the cache of a directory.
-fn read(alloc: Global, texts: Texts<'static>) -> Result<Result<[usize; 8], Part>, Fail> {
-    let database = merged(alloc, &[texts])?;
-    let bytes = write_cache(alloc, &database, LARGEST_CACHE)?;
-    counts(alloc, &bytes)
+fn table() -> &'static [Row] {
+    &ROWS
 }
 
 #[test]
 fn as_many_as_lines(rt: HostRuntime) -> Result<(), Fail> {
-    for row in &ROWS {
-        alike(&rt, row.name, read(rt.alloc(), row.texts)?, Ok(row.counts));
+    let alloc = rt.alloc();
+    for row in table() {
+        let bytes = written(alloc, row.texts, LARGEST_CACHE)?;
+        alike(&rt, row.name, counts(alloc, &bytes)?, Ok(row.counts));
     }
-    alike(
-        &rt,
-        "by hand",
-        counts(rt.alloc(), &SAMPLE)?,
-        Ok([1, 1, 1, 1, 0, 1, 0, 0]),
-    );
+    let by_hand = counts(alloc, &SAMPLE)?;
+    alike(&rt, "by hand", by_hand, Ok([1, 1, 1, 1, 0, 1, 0, 0]));
     Ok(())
 }
 
 #[test]
 fn names_of_the_whole(rt: HostRuntime) -> Result<(), Fail> {
     let alloc = rt.alloc();
-    for row in &ROWS {
-        let database = merged(alloc, &[row.texts])?;
-        let bytes = write_cache(alloc, &database, LARGEST_CACHE)?;
+    for row in table() {
+        let bytes = written(alloc, row.texts, LARGEST_CACHE)?;
         let [aliases, _, literals, leaves, globs, _, _, _] = row.counts;
-        alike(
-            &rt,
-            row.name,
-            name_counts(alloc, &bytes)?,
-            Some([aliases, literals, leaves, globs]),
-        );
+        let wanted = Some([aliases, literals, leaves, globs]);
+        alike(&rt, row.name, name_counts(alloc, &bytes)?, wanted);
     }
     Ok(())
 }
@@ -105,8 +96,7 @@ fn exchanged(alloc: Global) -> Result<Vec<u8>, Fail> {
         aliases: b"t/a t/c\nt/b t/c\n",
         ..EMPTY
     };
-    let database = merged(alloc, &[texts])?;
-    let mut bytes = write_cache(alloc, &database, LARGEST_CACHE)?;
+    let mut bytes = written(alloc, texts, LARGEST_CACHE)?;
     // two entries stand after the header, four texts of four bytes and the count
     let (mut first, mut second) = ([0; 8], [0; 8]);
     write_at(&mut first, 0, rest_from(&bytes, 60));
@@ -128,42 +118,34 @@ fn aliases_that_fall(rt: HostRuntime) -> Result<(), Fail> {
     Ok(())
 }
 
-/// A rule of the suffix tree: its weight, its type, its pattern, and whether it is case-sensitive.
-type Leaf = (u8, &'static [u8], &'static [u8], bool);
-
-/// The rules of the tree by rising last bytes, and of one ending the leaf before what is below it.
-static LEAVES: [Leaf; 5] = [
-    (50, b"t/C", b"*.GZ", true),
-    (0, b"t/d", b"*.a-long-ending-of-names", false),
-    (50, b"t/c", b"*.gz", false),
-    (60, b"t/b", b"*.tar.gz", false),
-    (255, b"t/e", b"*~", false),
-];
+/// The rules of the tree by rising last bytes, and of one ending the leaf before what is below it, as lines of `globs2`.
+const LEAVES: &[u8] =
+    b"50:t/C:*.GZ:cs\n0:t/d:*.a-long-ending-of-names\n50:t/c:*.gz\n60:t/b:*.tar.gz\n255:t/e:*~\n";
 
 static LEAF_TEXTS: Texts<'static> = Texts {
     globs2: b"60:t/b:*.tar.gz\n255:t/e:*~\n50:t/c:*.gz\n0:t/d:*.a-long-ending-of-names\n50:t/C:*.GZ:cs\n50:t/f:README\n",
     ..EMPTY
 };
 
+/// The rules of a tree as lines of `globs2`.
+fn lines_of(alloc: Global, leaves: &Leaves<'_>) -> Result<Vec<u8>, AllocError> {
+    let mut lines = Vec::new(alloc);
+    for place in 0..leaves.len() {
+        if let Some(leaf) = leaves.get(place) {
+            add_rule(&mut lines, leaf.weight, leaf.kind, leaf.pattern, leaf.cased)?;
+        }
+    }
+    Ok(lines)
+}
+
 #[test]
 fn leaves_in_their_order(rt: HostRuntime) -> Result<(), Fail> {
     let alloc = rt.alloc();
-    let database = merged(alloc, &[LEAF_TEXTS])?;
-    let bytes = write_cache(alloc, &database, LARGEST_CACHE)?;
+    let bytes = written(alloc, LEAF_TEXTS, LARGEST_CACHE)?;
     let lists = read_names(alloc, &Counted::new(&bytes), &mut Meter::new())?;
-    alike(&rt, "how many", lists.leaves.len(), LEAVES.len());
-    for place in 0..LEAVES.len() {
-        let found = lists
-            .leaves
-            .get(place)
-            .map(|leaf| (leaf.weight, leaf.kind, leaf.pattern, leaf.cased));
-        alike(&rt, "leaf", found, Some(LEAVES[place]));
-    }
-    alike(
-        &rt,
-        "no more",
-        lists.leaves.get(LEAVES.len()).is_none(),
-        true,
-    );
+    let leaves = &lists.leaves;
+    alike(&rt, "how many", leaves.len(), 5);
+    alike(&rt, "leaf", lines_of(alloc, leaves)?.as_slice(), LEAVES);
+    alike(&rt, "no more", leaves.get(5).is_none(), true);
     Ok(())
 }

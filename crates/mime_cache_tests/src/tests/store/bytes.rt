@@ -3,9 +3,9 @@
 //! They were made by hand from the format's rules, with each text and value at a multiple of 4, once for each use, and what a
 //! record points to before it.
 
+use crate::tests::caches::written;
 use crate::tests::checked::alike;
-use mime_samples::texts::{SAMPLE_TEXTS, merged};
-use mime_store::write_cache;
+use mime_samples::texts::SAMPLE_TEXTS;
 use std::test::Fail;
 
 /// The cache of [`SAMPLE_TEXTS`].
@@ -30,9 +30,8 @@ static WRITTEN: [u8; 256] = [
 
 #[test]
 fn of_the_sample(rt: HostRuntime) -> Result<(), Fail> {
-    let database = merged(rt.alloc(), &[SAMPLE_TEXTS])?;
     for limit in [256, 1024] {
-        let bytes = write_cache(rt.alloc(), &database, limit)?;
+        let bytes = written(rt.alloc(), SAMPLE_TEXTS, limit)?;
         alike(&rt, "bytes", bytes.as_slice(), &WRITTEN);
     }
     Ok(())

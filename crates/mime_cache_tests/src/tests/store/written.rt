@@ -1,5 +1,6 @@
 //! Databases at the limits that they fit in, and what is read of the written caches.
 
+use crate::tests::caches::written;
 use crate::tests::checked::alike;
 use mime_base::{Counted, Meter};
 use mime_samples::texts::{EMPTY, SAMPLE_TEXTS, Texts, merged};
@@ -99,6 +100,10 @@ static ROWS: [Row; 6] = [
     },
 ];
 
+fn table() -> &'static [Row] {
+    &ROWS
+}
+
 /// Why a row's database is refused at the one limit, and how many bytes its cache has at the other.
 fn sizes(alloc: Global, row: &Row) -> Result<(Option<StoreFault>, usize), Fail> {
     let database = merged(alloc, &[row.texts])?;
@@ -109,7 +114,7 @@ fn sizes(alloc: Global, row: &Row) -> Result<(Option<StoreFault>, usize), Fail> 
 
 #[test]
 fn limits(rt: HostRuntime) -> Result<(), Fail> {
-    for row in &ROWS {
+    for row in table() {
         let wanted = (Some(StoreFault::TooLarge), row.fits);
         alike(&rt, row.name, sizes(rt.alloc(), row)?, wanted);
     }
@@ -128,15 +133,14 @@ fn says(cache: &Cache<'_>, row: &Row) -> Result<bool, CacheFault> {
 
 /// Whether a row's cache, once it is written, says what the row says.
 fn is_read_back(alloc: Global, row: &Row) -> Result<bool, Fail> {
-    let database = merged(alloc, &[row.texts])?;
-    let bytes = write_cache(alloc, &database, row.fits)?;
+    let bytes = written(alloc, row.texts, row.fits)?;
     let cache = Cache::open(Counted::new(&bytes), &mut Meter::new())?;
     Ok(says(&cache, row)?)
 }
 
 #[test]
 fn read_back(rt: HostRuntime) -> Result<(), Fail> {
-    for row in &ROWS {
+    for row in table() {
         alike(&rt, row.name, is_read_back(rt.alloc(), row)?, true);
     }
     Ok(())

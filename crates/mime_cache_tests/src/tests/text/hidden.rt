@@ -77,6 +77,10 @@ static ROWS: [Row; 12] = [
     },
 ];
 
+fn table() -> &'static [Row] {
+    &ROWS
+}
+
 /// Whether the rules of a database are those at these places of another.
 pub fn are_at(database: &Database, all: &Database, places: &[usize]) -> bool {
     let mut same = database.rules.len() == places.len();
@@ -94,7 +98,7 @@ pub fn are_at(database: &Database, all: &Database, places: &[usize]) -> bool {
 
 #[test]
 fn rows(rt: HostRuntime) -> Result<(), Fail> {
-    for row in &ROWS {
+    for row in table() {
         let all = of_rules(rt.alloc(), row.globs2)?;
         let shown = visible(rt.alloc(), of_rules(rt.alloc(), row.globs2)?)?;
         alike(&rt, row.name, are_at(&shown, &all, row.visible), true);

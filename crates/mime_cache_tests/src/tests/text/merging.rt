@@ -3,21 +3,14 @@
 use crate::tests::checked::alike;
 use mime_base::{Database, GlobRule, Icon, Pair, Section};
 use mime_samples::texts::{EMPTY, Texts, merged};
-use std::process::Abort;
+use std::alloc::{AllocError, Global};
 use std::test::Fail;
 
-/// Pairs of texts.
-type TextPairs = &'static [(&'static [u8], &'static [u8])];
-
+/// Directories, and what is merged of them: a line for each member of each list.
 struct Row {
     name: &'static str,
     dirs: &'static [Texts<'static>],
-    rules: TextPairs,
-    sections: &'static [(u32, &'static [u8])],
-    aliases: TextPairs,
-    parents: TextPairs,
-    icons: TextPairs,
-    generic_icons: TextPairs,
+    merged: &'static [u8],
 }
 
 const MARKER: Texts<'static> = Texts {
@@ -42,12 +35,7 @@ static ROWS: [Row; 4] = [
     Row {
         name: "no directories",
         dirs: &[],
-        rules: &[],
-        sections: &[],
-        aliases: &[],
-        parents: &[],
-        icons: &[],
-        generic_icons: &[],
+        merged: b"",
     },
     Row {
         name: "first-alias-pair",
@@ -55,109 +43,91 @@ static ROWS: [Row; 4] = [
             aliases: b"a/b c/d\nx y\na/b e/f\n# z",
             ..EMPTY
         }],
-        rules: &[],
-        sections: &[],
-        aliases: &[(b"a/b", b"c/d")],
-        parents: &[],
-        icons: &[],
-        generic_icons: &[],
+        merged: b"alias a/b c/d\n",
     },
     Row {
         name: "marker first",
         dirs: &[MARKER, OLD],
-        rules: &[(b"t/a", b"*.new")],
-        sections: &[(90, b"t/d"), (60, b"t/a"), (40, b"t/b"), (40, b"t/c")],
-        aliases: &[(b"a/b", b"c/d"), (b"a/c", b"c/d")],
-        parents: &[(b"t/a", b"t/b"), (b"t/a", b"t/c"), (b"t/a", b"t/d")],
-        icons: &[(b"t/a", b"x"), (b"t/b", b"z")],
-        generic_icons: &[(b"t/a", b"w")],
+        merged: b"rule t/a *.new\n\
+            section 90 t/d\nsection 60 t/a\nsection 40 t/b\nsection 40 t/c\n\
+            alias a/b c/d\nalias a/c c/d\n\
+            parent t/a t/b\nparent t/a t/c\nparent t/a t/d\n\
+            icon t/a x\nicon t/b z\n\
+            generic-icon t/a w\n",
     },
     Row {
         name: "marker last",
         dirs: &[OLD, MARKER],
-        rules: &[(b"t/a", b"*.old"), (b"t/a", b"*.new")],
-        sections: &[
-            (90, b"t/d"),
-            (80, b"t/a"),
-            (60, b"t/a"),
-            (40, b"t/c"),
-            (40, b"t/b"),
-        ],
-        aliases: &[(b"a/b", b"g/h"), (b"a/c", b"c/d")],
-        parents: &[(b"t/a", b"t/d"), (b"t/a", b"t/b"), (b"t/a", b"t/c")],
-        icons: &[(b"t/a", b"z"), (b"t/b", b"z")],
-        generic_icons: &[(b"t/a", b"w")],
+        merged: b"rule t/a *.old\nrule t/a *.new\n\
+            section 90 t/d\nsection 80 t/a\nsection 60 t/a\nsection 40 t/c\nsection 40 t/b\n\
+            alias a/b g/h\nalias a/c c/d\n\
+            parent t/a t/d\nparent t/a t/b\nparent t/a t/c\n\
+            icon t/a z\nicon t/b z\n\
+            generic-icon t/a w\n",
     },
 ];
 
-/// Whether both texts are those of a pair.
-fn is_pair(first: &[u8], second: &[u8], want: &(&[u8], &[u8])) -> bool {
-    first == want.0 && second == want.1
+fn table() -> &'static [Row] {
+    &ROWS
 }
 
-/// Whether rules have these types and patterns.
-fn are_rules(rules: &[GlobRule], want: TextPairs) -> bool {
-    let mut same = rules.len() == want.len();
-    for (rule, want) in rules.iter().zip(want) {
-        same &= is_pair(rule.kind.bytes(), rule.pattern.bytes(), want);
+/// Adds a line of a member of a list.
+fn add(lines: &mut Vec<u8>, list: &[u8], first: &[u8], second: &[u8]) -> Result<(), AllocError> {
+    lines.extend_from_slice(list)?;
+    lines.extend_from_slice(b" ")?;
+    lines.extend_from_slice(first)?;
+    lines.extend_from_slice(b" ")?;
+    lines.extend_from_slice(second)?;
+    lines.extend_from_slice(b"\n")
+}
+
+fn add_rules(lines: &mut Vec<u8>, rules: &[GlobRule]) -> Result<(), AllocError> {
+    for rule in rules {
+        add(lines, b"rule", rule.kind.bytes(), rule.pattern.bytes())?;
     }
-    same
+    Ok(())
 }
 
-/// Whether a section has this priority and type.
-fn is_section(section: &Section, want: &(u32, &[u8])) -> bool {
-    section.priority == want.0 && section.kind.bytes() == want.1
-}
-
-/// Whether sections have these priorities and types.
-fn are_sections(sections: &[Section], want: &[(u32, &[u8])]) -> bool {
-    let mut same = sections.len() == want.len();
-    for (section, want) in sections.iter().zip(want) {
-        same &= is_section(section, want);
+fn add_sections(lines: &mut Vec<u8>, sections: &[Section]) -> Result<(), AllocError> {
+    for section in sections {
+        let priority = format!(in *lines.allocator(); "{}", section.priority)?;
+        add(lines, b"section", priority.as_bytes(), section.kind.bytes())?;
     }
-    same
+    Ok(())
 }
 
-/// Whether pairs have these texts.
-fn are_pairs(pairs: &[Pair], want: TextPairs) -> bool {
-    let mut same = pairs.len() == want.len();
-    for (pair, want) in pairs.iter().zip(want) {
-        same &= is_pair(pair.name.bytes(), pair.target.bytes(), want);
+fn add_pairs(lines: &mut Vec<u8>, list: &[u8], pairs: &[Pair]) -> Result<(), AllocError> {
+    for pair in pairs {
+        add(lines, list, pair.name.bytes(), pair.target.bytes())?;
     }
-    same
+    Ok(())
 }
 
-/// Whether icons have these texts.
-fn are_icons(icons: &[Icon], want: TextPairs) -> bool {
-    let mut same = icons.len() == want.len();
-    for (icon, want) in icons.iter().zip(want) {
-        same &= is_pair(icon.kind.bytes(), icon.name.bytes(), want);
+fn add_icons(lines: &mut Vec<u8>, list: &[u8], icons: &[Icon]) -> Result<(), AllocError> {
+    for icon in icons {
+        add(lines, list, icon.kind.bytes(), icon.name.bytes())?;
     }
-    same
+    Ok(())
 }
 
-/// A database is that of a row.
-fn is_merged(rt: &impl Abort, row: &Row, database: &Database) {
-    let name = row.name;
-    alike(rt, name, are_rules(&database.rules, row.rules), true);
-    alike(
-        rt,
-        name,
-        are_sections(&database.sections, row.sections),
-        true,
-    );
-    alike(rt, name, are_pairs(&database.aliases, row.aliases), true);
-    alike(rt, name, are_pairs(&database.parents, row.parents), true);
-    alike(rt, name, are_icons(&database.icons, row.icons), true);
-    let generic_icons = are_icons(&database.generic_icons, row.generic_icons);
-    alike(rt, name, generic_icons, true);
+/// The lines of the lists of a database.
+fn lines_of(alloc: Global, database: &Database) -> Result<Vec<u8>, AllocError> {
+    let mut lines = Vec::new(alloc);
+    add_rules(&mut lines, &database.rules)?;
+    add_sections(&mut lines, &database.sections)?;
+    add_pairs(&mut lines, b"alias", &database.aliases)?;
+    add_pairs(&mut lines, b"parent", &database.parents)?;
+    add_icons(&mut lines, b"icon", &database.icons)?;
+    add_icons(&mut lines, b"generic-icon", &database.generic_icons)?;
+    Ok(lines)
 }
 
 #[test]
 fn rows(rt: HostRuntime) -> Result<(), Fail> {
-    for row in &ROWS {
+    for row in table() {
         let database = merged(rt.alloc(), row.dirs)?;
-        is_merged(&rt, row, &database);
+        let lines = lines_of(rt.alloc(), &database)?;
+        alike(&rt, row.name, lines.as_slice(), row.merged);
     }
     Ok(())
 }

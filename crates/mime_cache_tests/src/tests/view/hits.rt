@@ -3,11 +3,11 @@
 //! The sample's literal list stands at 72; its one entry names `mk` at 232. Its tree stands at 88, with the
 //! nodes `z`, `g` and `.` at 96, 108 and 120 and the leaf of `*.gz` at 132. Its glob list is empty.
 
+use crate::tests::caches::written;
 use crate::tests::checked::alike;
 use mime_base::{Counted, Meter};
 use mime_samples::caches::SAMPLE;
-use mime_samples::texts::{EMPTY, Texts, merged};
-use mime_store::write_cache;
+use mime_samples::texts::{EMPTY, Texts};
 use mime_view::{Budget, Cache, CacheFault, NameHits, RuleHits, Which};
 use std::alloc::Global;
 use std::test::Fail;
@@ -43,8 +43,8 @@ fn a_tree_that_loops(rt: HostRuntime) -> Result<(), CacheFault> {
     let count = given.kinds.as_slice().len();
     alike(&rt, "30 characters", (count, records_left), (0, 0));
     let refused = hits(alloc, &bytes, &name, Which::Kept, &mut records_left);
-    alike(&rt, "31 characters", refused.err(), Some(CacheFault::Spent));
-    alike(&rt, "31 characters", records_left, 0);
+    let spent = (Some(CacheFault::Spent), 0);
+    alike(&rt, "31 characters", (refused.err(), records_left), spent);
     Ok(())
 }
 
@@ -102,7 +102,7 @@ const RANKS: Texts<'static> = Texts {
 #[test]
 fn by_falling_rank(rt: HostRuntime) -> Result<(), Fail> {
     let alloc = rt.alloc();
-    let cache = write_cache(alloc, &merged(alloc, &[RANKS])?, usize::MAX)?;
+    let cache = written(alloc, RANKS, usize::MAX)?;
     let rows: [(&[u8], &[&[u8]], usize); 3] = [
         (
             b"m.gz",
@@ -148,7 +148,7 @@ const WEIGHTS: Texts<'static> = Texts {
 #[test]
 fn weights_and_cases(rt: HostRuntime) -> Result<(), Fail> {
     let alloc = rt.alloc();
-    let bytes = write_cache(alloc, &merged(alloc, &[WEIGHTS])?, usize::MAX)?;
+    let bytes = written(alloc, WEIGHTS, usize::MAX)?;
     let rows: [(&[u8], &[(&[u8], u8, bool)], usize); 3] = [
         (
             b"M.GZ",

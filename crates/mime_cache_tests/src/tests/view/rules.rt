@@ -4,38 +4,20 @@
 //! 120 and a leaf at 132, and its glob list at 144.
 
 use crate::tests::checked::alike;
+use crate::tests::lines::add_rule;
 use mime_base::{Counted, Meter};
 use mime_samples::caches::{SAMPLE, damaged, with};
 use mime_view::{Budget, Cache, CacheFault, Listed};
-use std::alloc::Global;
+use std::alloc::{AllocError, Global};
 
-/// The rules of a cache under its whole budget, and the records that are left.
-fn rules_of<'a>(alloc: Global, bytes: &'a [u8]) -> (Result<Vec<Listed<'a>>, CacheFault>, u64) {
-    let mut meter = Meter::new();
-    let cache = match Cache::open(Counted::new(bytes), &mut meter) {
-        Ok(cache) => cache,
-        Err(fault) => return (Err(fault), 0),
-    };
-    let mut budget = Budget::of(&cache);
-    let rules = cache.rules(alloc, &mut meter, &mut budget);
-    (rules, budget.records)
-}
-
-/// A weight, a type, a pattern and the case-sensitive flag.
-type Row = (u8, &'static [u8], &'static [u8], bool);
-
-/// What the sample lists with other bytes at an offset, and the records that are left.
+/// What the sample lists with other bytes at an offset, as lines of `globs2`, and the records that are left.
 struct Lists {
     name: &'static str,
     at: usize,
     bytes: &'static [u8],
     left: u64,
-    rows: &'static [Row],
+    rules: &'static [u8],
 }
-
-const MK: Row = (50, b"t/m", b"mk", false);
-
-const GZ: Row = (50, b"t/g", b"*.gz", false);
 
 static LISTS: [Lists; 8] = [
     Lists {
@@ -43,7 +25,7 @@ static LISTS: [Lists; 8] = [
         at: 0,
         bytes: &[],
         left: 55,
-        rows: &[MK, GZ],
+        rules: b"50:t/m:mk\n50:t/g:*.gz\n",
     },
     // the glob list is that of the literal rules
     Lists {
@@ -51,7 +33,7 @@ static LISTS: [Lists; 8] = [
         at: 23,
         bytes: &[72],
         left: 54,
-        rows: &[MK, GZ, MK],
+        rules: b"50:t/m:mk\n50:t/g:*.gz\n50:t/m:mk\n",
     },
     // the weight is the lowest byte, the flag the lowest bit of the next; the others say nothing
     Lists {
@@ -59,28 +41,28 @@ static LISTS: [Lists; 8] = [
         at: 84,
         bytes: &[0xff, 0xfe, 1, 7],
         left: 55,
-        rows: &[(7, b"t/m", b"mk", true), GZ],
+        rules: b"7:t/m:mk:cs\n50:t/g:*.gz\n",
     },
     Lists {
         name: "flags of a leaf",
         at: 140,
         bytes: &[0, 1, 1, 255],
         left: 55,
-        rows: &[MK, (255, b"t/g", b"*.gz", true)],
+        rules: b"50:t/m:mk\n255:t/g:*.gz:cs\n",
     },
     Lists {
         name: "a character above 255",
         at: 110,
         bytes: &[1],
         left: 57,
-        rows: &[MK],
+        rules: b"50:t/m:mk\n",
     },
     Lists {
         name: "a leaf among the roots",
         at: 99,
         bytes: &[0],
         left: 58,
-        rows: &[MK],
+        rules: b"50:t/m:mk\n",
     },
     // its first record stands at 120, but that isn't looked at
     Lists {
@@ -88,41 +70,58 @@ static LISTS: [Lists; 8] = [
         at: 115,
         bytes: &[0],
         left: 57,
-        rows: &[MK],
+        rules: b"50:t/m:mk\n",
     },
     Lists {
         name: "siblings in their order: `g` and then `.`",
         at: 103,
         bytes: &[2],
         left: 53,
-        rows: &[MK, GZ, (50, b"t/g", b"*.z", false)],
+        rules: b"50:t/m:mk\n50:t/g:*.gz\n50:t/g:*.z\n",
     },
 ];
 
-/// Whether a rule is that of a row.
-fn is_listed(rule: &Listed<'_>, row: &Row) -> bool {
-    rule.weight == row.0
-        && rule.kind == row.1
-        && rule.pattern.as_slice() == row.2
-        && rule.cased == row.3
+fn table() -> &'static [Lists] {
+    &LISTS
 }
 
-/// Whether the rules are those of the rows.
-fn are_listed(rules: &[Listed<'_>], rows: &[Row]) -> bool {
-    let mut same = rules.len() == rows.len();
-    for (rule, row) in rules.iter().zip(rows) {
-        same &= is_listed(rule, row);
+/// Rules as lines of `globs2`.
+fn lines_of(alloc: Global, rules: &[Listed<'_>]) -> Result<Vec<u8>, AllocError> {
+    let mut lines = Vec::new(alloc);
+    for rule in rules {
+        add_rule(
+            &mut lines,
+            rule.weight,
+            rule.kind,
+            &rule.pattern,
+            rule.cased,
+        )?;
     }
-    same
+    Ok(lines)
+}
+
+/// The rules of a cache.
+fn listed(alloc: Global, cache: &Cache<'_>, budget: &mut Budget) -> Result<Vec<u8>, CacheFault> {
+    let rules = cache.rules(alloc, &mut Meter::new(), budget)?;
+    Ok(lines_of(alloc, &rules)?)
+}
+
+/// The rules of a cache under its whole budget, or their fault, and the records that are left.
+fn rules_of(alloc: Global, bytes: &[u8]) -> Result<(Result<Vec<u8>, CacheFault>, u64), CacheFault> {
+    let cache = Cache::open(Counted::new(bytes), &mut Meter::new())?;
+    let mut budget = Budget::of(&cache);
+    let rules = listed(alloc, &cache, &mut budget);
+    Ok((rules, budget.records))
 }
 
 #[test]
 fn rules_of_the_sample(rt: HostRuntime) -> Result<(), CacheFault> {
-    for list in &LISTS {
+    for list in table() {
         let cache = with(list.at, list.bytes);
-        let (rules, left) = rules_of(rt.alloc(), &cache);
-        alike(&rt, list.name, are_listed(&rules?, list.rows), true);
-        alike(&rt, list.name, left, list.left);
+        let (rules, left) = rules_of(rt.alloc(), &cache)?;
+        let rules = rules?;
+        let found = (rules.as_slice(), left);
+        alike(&rt, list.name, found, (list.rules, list.left));
     }
     Ok(())
 }
@@ -131,15 +130,15 @@ fn rules_of_the_sample(rt: HostRuntime) -> Result<(), CacheFault> {
 #[test]
 fn a_node_that_is_its_own_child(rt: HostRuntime) -> Result<(), CacheFault> {
     let tree_loop = with(107, &[0x60]);
-    let (rules, left) = rules_of(rt.alloc(), &tree_loop);
-    alike(&rt, "spent", rules.err(), Some(CacheFault::Spent));
-    alike(&rt, "spent", left, 0);
+    let (rules, left) = rules_of(rt.alloc(), &tree_loop)?;
+    let spent = (Some(CacheFault::Spent), 0);
+    alike(&rt, "spent", (rules.err(), left), spent);
     let mut longer = [0; 1_200];
     longer[..240].copy_from_slice(&tree_loop);
-    let (rules, left) = rules_of(rt.alloc(), &longer);
-    alike(&rt, "deep", rules.err(), Some(CacheFault::TooDeep));
+    let (rules, left) = rules_of(rt.alloc(), &longer)?;
     // the literal entry, 254 nodes, and the one below them
-    alike(&rt, "deep", left, 44);
+    let deep = (Some(CacheFault::TooDeep), 44);
+    alike(&rt, "deep", (rules.err(), left), deep);
     Ok(())
 }
 
@@ -147,7 +146,7 @@ fn a_node_that_is_its_own_child(rt: HostRuntime) -> Result<(), CacheFault> {
 #[test]
 fn cut_caches(rt: HostRuntime) -> Result<(), CacheFault> {
     for length in 40..88 {
-        let (rules, _) = rules_of(rt.alloc(), &SAMPLE[..length]);
+        let (rules, _) = rules_of(rt.alloc(), &SAMPLE[..length])?;
         let fault = CacheFault::OutOfRange(72);
         alike(&rt, "cut", (length, rules.err()), (length, Some(fault)));
     }
@@ -188,7 +187,7 @@ const FAR: CacheFault = CacheFault::OutOfRange(4_294_967_295);
 fn damaged_rules(rt: HostRuntime) -> Result<(), CacheFault> {
     for &(name, at, fault) in &DAMAGES {
         let bytes = damaged(at);
-        let (rules, _) = rules_of(rt.alloc(), &bytes);
+        let (rules, _) = rules_of(rt.alloc(), &bytes)?;
         alike(&rt, name, rules.err(), Some(fault));
     }
     Ok(())

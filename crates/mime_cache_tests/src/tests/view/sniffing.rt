@@ -39,12 +39,13 @@ fn a_line_that_is_its_own_child(rt: HostRuntime) -> Result<(), CacheFault> {
     let cache = Cache::open(Counted::new(&SELF_CHILD), &mut meter)?;
     let mut budget = Budget::of(&cache);
     let found = cache.sniff(b"x", Host::Little, &mut meter, &mut budget);
-    alike(&rt, "spent", found.err(), Some(CacheFault::Spent));
-    alike(&rt, "spent", budget.records, 0);
+    let spent = (Some(CacheFault::Spent), 0);
+    alike(&rt, "spent", (found.err(), budget.records), spent);
     budget.records = 100;
     let found = cache.sniff(b"x", Host::Big, &mut meter, &mut budget);
-    alike(&rt, "deep", found.err(), Some(CacheFault::TooDeep));
-    alike(&rt, "deep", (budget.records, budget.value_bytes), (35, 112));
+    let left = (budget.records, budget.value_bytes);
+    let deep = (Some(CacheFault::TooDeep), (35, 112));
+    alike(&rt, "deep", (found.err(), left), deep);
     Ok(())
 }
 
