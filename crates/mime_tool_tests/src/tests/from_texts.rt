@@ -3,48 +3,28 @@
 use crate::tests::ran::alike;
 use mime_base::{Host, Meter};
 use mime_lookup::{Cause, Order, Stopped};
+use mime_samples::texts::EMPTY;
 use mime_text::{MagicFault, MagicFaultKind};
 use mime_tool::{AnswerFault, DirTexts, OwnedAnswer, answer};
 use std::alloc::Global;
 use std::process::Abort;
 use std::test::Fail;
 
-const NOTHING: DirTexts<'static> = DirTexts {
-    globs2: b"",
-    magic: b"",
-    aliases: b"",
-    subclasses: b"",
-    icons: b"",
-    generic_icons: b"",
-};
-
 /// A long suffix beside a short one.
 static TARS: [DirTexts<'static>; 1] = [DirTexts {
     globs2: b"50:application/gzip:*.gz\n50:application/x-compressed-tar:*.tar.gz\n",
-    magic: b"",
-    aliases: b"",
-    subclasses: b"",
-    icons: b"",
-    generic_icons: b"",
+    ..EMPTY
 }];
 
 /// A marker, and a rule of its type in a less preferred directory.
 static MARKED: [DirTexts<'static>; 2] = [
     DirTexts {
         globs2: b"0:t/a:__NOGLOBS__\n50:t/a:*.new\n",
-        magic: b"",
-        aliases: b"",
-        subclasses: b"",
-        icons: b"",
-        generic_icons: b"",
+        ..EMPTY
     },
     DirTexts {
         globs2: b"50:t/a:*.old\n",
-        magic: b"",
-        aliases: b"",
-        subclasses: b"",
-        icons: b"",
-        generic_icons: b"",
+        ..EMPTY
     },
 ];
 
@@ -52,10 +32,8 @@ static MARKED: [DirTexts<'static>; 2] = [
 static OGG: [DirTexts<'static>; 1] = [DirTexts {
     globs2: b"50:audio/ogg:*.ogg\n50:video/ogg:*.ogg\n",
     magic: b"MIME-Magic\0\n[50:application/ogg]\n>0=\0\x04OggS\n",
-    aliases: b"",
     subclasses: b"audio/ogg x/a\nx/a audio/ogg\nvideo/ogg x/a\nvideo/ogg application/ogg\n",
-    icons: b"",
-    generic_icons: b"",
+    ..EMPTY
 }];
 
 fn type_of(
@@ -143,14 +121,10 @@ fn types_that_conflict(rt: HostRuntime) -> Result<(), Fail> {
 
 /// The second directory's magic is refused.
 static REFUSED: [DirTexts<'static>; 2] = [
-    NOTHING,
+    EMPTY,
     DirTexts {
-        globs2: b"",
         magic: b"MIME",
-        aliases: b"",
-        subclasses: b"",
-        icons: b"",
-        generic_icons: b"",
+        ..EMPTY
     },
 ];
 

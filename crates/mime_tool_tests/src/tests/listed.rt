@@ -265,20 +265,18 @@ fn answers_listed_files(rt: HostRuntime) -> Result<(), Fail> {
 // A name takes more than one read.
 #[test]
 fn answers_names_of_any_length(rt: HostRuntime) -> Result<(), Fail> {
-    let mut list = Vec::new(rt.alloc());
-    list.resize(9_000, b'a')?;
-    list.extend_from_slice(b"/x.a\0text")?;
-    let mut line = Vec::new(rt.alloc());
-    line.resize(9_000, b'a')?;
-    line.extend_from_slice(b"/x.a: t/a\ntext: application/octet-stream\n")?;
-    let files = [GLOBS, ("long", Entry::Bytes(list.as_slice()))];
+    let alloc = rt.alloc();
+    let folder = "a".repeat(alloc, 9_000)?;
+    let list = format!(in alloc; "{folder}/x.a\0text")?;
+    let line = format!(in alloc; "{folder}/x.a: t/a\ntext: application/octet-stream\n")?;
+    let files = [GLOBS, ("long", Entry::Bytes(list.as_bytes()))];
     let wanted = Said {
         status: 0,
-        out: str::from_utf8(line.as_slice())?,
+        out: line.as_str(),
         err: "",
     };
     let words = ["plain", "-d", "/s", "--name-only", "--files0-from", "long"];
-    says_over(&rt, rt.alloc(), "long", &words, &files, wanted)
+    says_over(&rt, alloc, "long", &words, &files, wanted)
 }
 
 // The answer to a name is out when more of the list is waited for: then every call fails.

@@ -4,6 +4,7 @@ use crate::tests::ran::{Said, alike, says, says_over};
 use crate::{Drawer, Entry, Shelf};
 use mime_base::Host;
 use mime_lookup::Order;
+use mime_samples::texts::EMPTY;
 use mime_tool::{DirTexts, answer};
 use std::alloc::Global;
 use std::process::Abort;
@@ -176,10 +177,7 @@ fn builds_of_visible_rules(rt: HostRuntime) -> Result<(), Fail> {
 static DIRS: [DirTexts<'static>; 1] = [DirTexts {
     globs2: C_FILES,
     magic: MAGIC,
-    aliases: b"",
-    subclasses: b"",
-    icons: b"",
-    generic_icons: b"",
+    ..EMPTY
 }];
 
 static ANSWERED: [(&str, &str); 2] = [("main.C", "text/x-c++src"), ("main.c", "text/x-csrc")];
