@@ -17,9 +17,10 @@ mod several;
 mod subclasses;
 
 use crate::tests::checked::alike;
-use mime_base::{Counted, Host, Meter};
+use mime_base::{Counted, Database, Host, Meter};
 use mime_load::Unread;
-use mime_lookup::{Answer, Cause, Content, IndexedCache, Order, Stopped, look_up};
+use mime_lookup::{Answer, Cause, Content, IndexedCache, Order, Stopped, look_up, look_up_again};
+use mime_samples::caches::write_at;
 use mime_samples::texts::{Texts, merged};
 use mime_store::write_cache;
 use std::alloc::Global;
@@ -28,6 +29,9 @@ use std::process::Abort;
 /// The type and how much was read, or why there is none and how much was read.
 type Outcome<'a> = Result<(&'a [u8], u64), (Cause, u64)>;
 
+/// A name and a content that are looked up, and in which order.
+type Asked<'a> = (&'a [u8], Option<&'a [u8]>, Order);
+
 fn outcome_of<'a>(found: Result<Answer<'a>, Stopped>) -> Outcome<'a> {
     match found {
         Ok(answer) => Ok((answer.kind, answer.read)),
@@ -35,15 +39,36 @@ fn outcome_of<'a>(found: Result<Answer<'a>, Stopped>) -> Outcome<'a> {
     }
 }
 
+/// The database of a directory. It is boxed, so that to let it go is one call, whose proof is short.
+fn database_of(rt: &impl Abort, alloc: Global, texts: Texts<'_>) -> Box<Database> {
+    let database = merged(alloc, &[texts]).expect(rt, "a database");
+    Box::new(alloc, database).expect(rt, "room")
+}
+
 /// The bytes of the cache of a directory.
 fn cache_of(rt: &impl Abort, alloc: Global, texts: Texts<'_>) -> Vec<u8> {
-    let database = merged(alloc, &[texts]).expect(rt, "a database");
+    let database = database_of(rt, alloc, texts);
     write_cache(alloc, &database, 8192).expect(rt, "its cache")
 }
 
-/// A cache that is opened.
-fn opened<'a>(rt: &impl Abort, cache: &'a [u8]) -> IndexedCache<'a> {
-    IndexedCache::open(Counted::new(cache), &mut Meter::new()).expect(rt, "an opened cache")
+/// The bytes of a cache with other numbers at these offsets.
+fn with_numbers(rt: &impl Abort, alloc: Global, cache: &[u8], numbers: &[(usize, u32)]) -> Vec<u8> {
+    let mut cache = Vec::from_slice(alloc, cache).expect(rt, "a copy");
+    for (at, number) in numbers {
+        write_at(&mut cache, *at, &number.to_be_bytes());
+    }
+    cache
+}
+
+/// Whether a cache can be opened.
+fn is_opened(cache: &[u8]) -> bool {
+    IndexedCache::open(Counted::new(cache), &mut Meter::new()).is_ok()
+}
+
+/// A cache that is opened. It is boxed too.
+fn opened<'a>(rt: &impl Abort, alloc: Global, cache: &'a [u8]) -> Box<IndexedCache<'a>> {
+    let indexed = IndexedCache::open(Counted::new(cache), &mut Meter::new());
+    Box::new(alloc, indexed.expect(rt, "an opened cache")).expect(rt, "room")
 }
 
 /// Which parts of a cache are read back.
@@ -142,6 +167,35 @@ fn look_up_over<'a, R: Content>(
     order: Order,
 ) -> Result<Answer<'a>, Stopped> {
     look_up(alloc, Counted::new(cache), file, content, host, order)
+}
+
+/// The outcome by a walk over the bytes of a cache.
+fn walked<'a>(alloc: Global, cache: &'a [u8], (file, content, order): Asked<'_>) -> Outcome<'a> {
+    let mut content = content;
+    outcome_of(look_up_over(alloc, cache, file, &mut content, Host::Little, order))
+}
+
+/// The outcome by a cache that is opened, and by what was read back of it.
+fn found_again<'a>(
+    alloc: Global,
+    indexed: &IndexedCache<'a>,
+    (file, content, order): Asked<'_>,
+) -> Outcome<'a> {
+    let mut content = content;
+    outcome_of(look_up_again(alloc, indexed, file, &mut content, Host::Little, order))
+}
+
+/// What is damaged at an offset isn't read back, and what is found then is what a walk finds: its fault.
+fn is_fault(
+    rt: &impl Abort,
+    at: usize,
+    read: Option<Unread>,
+    walked: Option<Cause>,
+    again: Option<Cause>,
+) {
+    alike(rt, "read back", (at, read), (at, Some(Unread::NotSpelled)));
+    alike(rt, "a fault", (at, walked.is_some()), (at, true));
+    alike(rt, "found", (at, again), (at, walked));
 }
 
 /// Whether what was visited and compared is within the bounds, for the lengths of a name and of a cache and for

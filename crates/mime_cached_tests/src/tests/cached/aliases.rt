@@ -52,17 +52,24 @@ static ROWS: [Row; 4] = [
     },
 ];
 
-/// What a search found, and its nodes and bytes.
-fn told(rt: &impl Abort, found: Result<(bool, Meter), Stopped>) -> (bool, (u64, u64)) {
+/// A row's search finds what the row says, after so many nodes and bytes.
+fn is_found(
+    rt: &impl Abort,
+    way: &str,
+    row: &Row,
+    found: Result<(bool, Meter), Stopped>,
+    counts: (u64, u64),
+) {
     let (is, meter) = found.expect(rt, "an answer");
-    (is, (meter.nodes, meter.bytes))
+    alike(rt, way, (is, (meter.nodes, meter.bytes)), (row.is, counts));
 }
 
-/// What a row's search finds over the bytes of a cache.
-fn search_bytes(rt: &impl Abort, alloc: Global, cache: &[u8], row: &Row) -> (bool, (u64, u64)) {
+/// So it does over the bytes of a cache.
+fn is_found_in(rt: &impl Abort, alloc: Global, cache: &[u8], row: &Row) {
     let kind = TypeName::new(alloc, row.kind).expect(rt, "a type");
     let base = TypeName::new(alloc, row.base).expect(rt, "another");
-    told(rt, is_a(alloc, Counted::new(cache), &kind, &base))
+    let found = is_a(alloc, Counted::new(cache), &kind, &base);
+    is_found(rt, "bytes", row, found, row.walked);
 }
 
 /// The icons of a type over the bytes of a cache.
@@ -71,40 +78,55 @@ fn icons_in(rt: &impl Abort, alloc: Global, cache: &[u8], kind: &[u8]) -> Icons 
     icon_of(alloc, Counted::new(cache), &kind).expect(rt, "its icons")
 }
 
-/// The sample, opened, with what names need read back.
-fn sample_read_back<'a>(rt: &impl Abort, alloc: Global) -> IndexedCache<'a> {
-    let mut indexed = opened(rt, &SAMPLE);
+/// A cache that is opened, with what names need read back.
+fn names_read_back<'a>(rt: &impl Abort, alloc: Global, cache: &'a [u8]) -> Box<IndexedCache<'a>> {
+    let mut indexed = opened(rt, alloc, cache);
     read_names(alloc, &mut indexed, true).expect(rt, "names");
     indexed
 }
 
+/// So does each row's, also by the cache opened, and with its names read back.
+fn are_found(rt: &impl Abort, alloc: Global, cache: &[u8]) {
+    let opened = opened(rt, alloc, cache);
+    let indexed = names_read_back(rt, alloc, cache);
+    for row in &ROWS {
+        is_found_in(rt, alloc, cache, row);
+        let found = is_a_again(alloc, &opened, row.kind, row.base);
+        is_found(rt, "opened", row, found, row.walked);
+        let found = is_a_again(alloc, &indexed, row.kind, row.base);
+        is_found(rt, "read back", row, found, row.read_back);
+    }
+}
+
 #[test]
 fn subclasses(rt: HostRuntime) {
-    let alloc = rt.alloc();
-    let opened = opened(&rt, &SAMPLE);
-    let indexed = sample_read_back(&rt, alloc);
-    for row in &ROWS {
-        let walked = (row.is, row.walked);
-        alike(&rt, "bytes", search_bytes(&rt, alloc, &SAMPLE, row), walked);
-        let found = told(&rt, is_a_again(alloc, &opened, row.kind, row.base));
-        alike(&rt, "opened", found, walked);
-        let found = told(&rt, is_a_again(alloc, &indexed, row.kind, row.base));
-        alike(&rt, "read back", found, (row.is, row.read_back));
-    }
+    are_found(&rt, rt.alloc(), &SAMPLE);
+}
+
+/// The nodes and bytes that icons took.
+fn counted(icons: &Icons) -> (u64, u64) {
+    (icons.meter.nodes, icons.meter.bytes)
+}
+
+/// Both icons are those.
+fn are_icons(rt: &impl Abort, found: &Icons, wanted: &Icons) {
+    alike(rt, "icon", found.icon.as_slice(), wanted.icon.as_slice());
+    let (found, wanted) = (found.generic.as_slice(), wanted.generic.as_slice());
+    alike(rt, "generic icon", found, wanted);
+}
+
+/// The same by what names need, read back.
+fn icons_again(rt: &impl Abort, alloc: Global, cache: &[u8], kind: &[u8]) -> Icons {
+    let indexed = names_read_back(rt, alloc, cache);
+    icon_again(alloc, &indexed, kind).expect(rt, "its icons")
 }
 
 /// The icons of the alias are those of its type.
 #[test]
 fn icons(rt: HostRuntime) {
-    let alloc = rt.alloc();
-    let walked = icons_in(&rt, alloc, &SAMPLE, b"t/h");
-    let counted = (walked.meter.nodes, walked.meter.bytes);
-    alike(&rt, "walked", counted, (6, 8));
-    let indexed = sample_read_back(&rt, alloc);
-    let again = icon_again(alloc, &indexed, b"t/h").expect(&rt, "its icons");
-    let counted = (again.meter.nodes, again.meter.bytes);
-    alike(&rt, "read back", counted, (3, 0));
-    alike(&rt, "icon", again.icon.as_slice(), walked.icon.as_slice());
-    let (again, walked) = (again.generic.as_slice(), walked.generic.as_slice());
-    alike(&rt, "generic icon", again, walked);
+    let walked = icons_in(&rt, rt.alloc(), &SAMPLE, b"t/h");
+    alike(&rt, "walked", counted(&walked), (6, 8));
+    let again = icons_again(&rt, rt.alloc(), &SAMPLE, b"t/h");
+    alike(&rt, "read back", counted(&again), (3, 0));
+    are_icons(&rt, &again, &walked);
 }

@@ -3,21 +3,20 @@
 //! The numbers are counted by hand along the bytes of the caches: a record is a node, a text that is read its bytes and
 //! the zero, one that is compared those up to and including the first that differs.
 
-use super::{look_up_over, spent};
+use super::{look_up_over, spent, with_numbers};
 use crate::tests::checked::alike;
 use mime_base::Host;
 use mime_lookup::{Cause, Order};
-use mime_samples::caches::{PLAIN_LAYOUT, SAMPLE_BYTES, write_at};
+use mime_samples::caches::{PLAIN_LAYOUT, SAMPLE_BYTES};
 use mime_view::CacheFault;
 use std::alloc::Global;
 use std::process::Abort;
-use std::test::Fail;
 
-/// A lookup in a cache, of which one number is changed, why it stops, and the nodes and bytes that it counts.
+/// A lookup in a cache, of which some numbers are changed, why it stops, and the nodes and bytes that it counts.
 struct Row {
     name: &'static str,
     of: &'static [u8],
-    number: Option<(usize, u32)>,
+    numbers: &'static [(usize, u32)],
     file: &'static [u8],
     content: Option<&'static [u8]>,
     stop: Option<Cause>,
@@ -31,7 +30,7 @@ static ROWS: [Row; 7] = [
     Row {
         name: "a literal",
         of: &SAMPLE_BYTES,
-        number: None,
+        numbers: &[],
         file: b"mk",
         content: None,
         stop: None,
@@ -40,7 +39,7 @@ static ROWS: [Row; 7] = [
     Row {
         name: "an ending, with capitals",
         of: &SAMPLE_BYTES,
-        number: None,
+        numbers: &[],
         file: b"A.GZ",
         content: None,
         stop: None,
@@ -49,7 +48,7 @@ static ROWS: [Row; 7] = [
     Row {
         name: "a content",
         of: &SAMPLE_BYTES,
-        number: None,
+        numbers: &[],
         file: b"x",
         content: Some(&[0x1f, 0x8b, 8]),
         stop: None,
@@ -58,7 +57,7 @@ static ROWS: [Row; 7] = [
     Row {
         name: "a rule of the glob list, and one of less rank",
         of: &PLAIN_LAYOUT,
-        number: None,
+        numbers: &[],
         file: b"mk",
         content: None,
         stop: None,
@@ -67,7 +66,7 @@ static ROWS: [Row; 7] = [
     Row {
         name: "a rule of the glob list that begins otherwise",
         of: &PLAIN_LAYOUT,
-        number: Some((108, 1)),
+        numbers: &[(108, 1)],
         file: b"x",
         content: None,
         stop: None,
@@ -76,7 +75,7 @@ static ROWS: [Row; 7] = [
     Row {
         name: "a literal that lies outside",
         of: &SAMPLE_BYTES,
-        number: Some((76, u32::MAX)),
+        numbers: &[(76, u32::MAX)],
         file: b"mk",
         content: None,
         stop: OUTSIDE,
@@ -85,7 +84,7 @@ static ROWS: [Row; 7] = [
     Row {
         name: "an alias that lies outside",
         of: &SAMPLE_BYTES,
-        number: Some((44, u32::MAX)),
+        numbers: &[(44, u32::MAX)],
         file: b"mk",
         content: None,
         stop: OUTSIDE,
@@ -93,26 +92,21 @@ static ROWS: [Row; 7] = [
     },
 ];
 
-/// A row's lookup ends as the row says, and counts its nodes and bytes.
-fn is_counted(rt: &impl Abort, alloc: Global, row: &Row) -> Result<(), Fail> {
-    let mut cache = Vec::from_slice(alloc, row.of)?;
-    if let Some((at, number)) = row.number {
-        write_at(&mut cache, at, &number.to_be_bytes());
-    }
+/// Why a row's lookup stops, if it does, and its nodes and bytes.
+fn counted(rt: &impl Abort, alloc: Global, row: &Row) -> (Option<Cause>, (u64, u64)) {
+    let cache = with_numbers(rt, alloc, row.of, row.numbers);
     let (mut content, host) = (row.content, Host::Little);
     let order = Order::GlobsFirst;
     let found = look_up_over(alloc, &cache, row.file, &mut content, host, order);
     let (_, meter) = spent(&found);
     let stop = found.err().map(|stopped| stopped.cause);
-    let counts = (meter.nodes, meter.bytes);
-    alike(rt, row.name, (stop, counts), (row.stop, row.counts));
-    Ok(())
+    (stop, (meter.nodes, meter.bytes))
 }
 
 #[test]
-fn rows(rt: HostRuntime) -> Result<(), Fail> {
+fn rows(rt: HostRuntime) {
     for row in &ROWS {
-        is_counted(&rt, rt.alloc(), row)?;
+        let found = counted(&rt, rt.alloc(), row);
+        alike(&rt, row.name, found, (row.stop, row.counts));
     }
-    Ok(())
 }

@@ -1,16 +1,15 @@
 //! Icons by the aliases and the icons of a cache that were read back, and by an index of a database: they are those over the cache's bytes
 //! and over the lists.
 
-use super::{cache_of, opened};
+use super::{cache_of, database_of, is_fault, opened};
 use crate::tests::checked::alike;
 use mime_base::{Counted, Database, Meter, TypeName};
-use mime_load::Unread;
 use mime_lookup::{
     Cause, DatabaseIcons, Icons, IndexedCache, Stopped, icon_again, icon_of, icon_of_indexed,
     icon_of_plain,
 };
 use mime_samples::caches::damaged;
-use mime_samples::texts::{EMPTY, Texts, merged};
+use mime_samples::texts::{EMPTY, Texts};
 use std::alloc::Global;
 use std::process::Abort;
 
@@ -91,21 +90,32 @@ fn over_index(rt: &impl Abort, alloc: Global, index: &DatabaseIcons<'_>, row: &R
     are_icons(&icons, row)
 }
 
+/// Those of a row are found by both.
+fn are_found(
+    rt: &impl Abort,
+    alloc: Global,
+    database: &Database,
+    index: &DatabaseIcons<'_>,
+    row: &Row,
+) {
+    let by_lists = over_lists(rt, alloc, database, row);
+    let by_index = over_index(rt, alloc, index, row);
+    let wanted = (row.kind, true, true);
+    alike(rt, "icons", (row.kind, by_lists, by_index), wanted);
+}
+
+/// Those of each row are.
+fn all_are_found(rt: &impl Abort, alloc: Global, database: &Database) {
+    let index = DatabaseIcons::new(alloc, database).expect(rt, "its index");
+    for row in &ROWS {
+        are_found(rt, alloc, database, &index, row);
+    }
+}
+
 #[test]
 fn icons_by_a_database(rt: HostRuntime) {
-    let alloc = rt.alloc();
-    let database = merged(alloc, &[ICONS]).expect(&rt, "a database");
-    let index = DatabaseIcons::new(alloc, &database).expect(&rt, "its index");
-    for row in &ROWS {
-        let by_lists = over_lists(&rt, alloc, &database, row);
-        let by_index = over_index(&rt, alloc, &index, row);
-        alike(
-            &rt,
-            "icons",
-            (row.kind, by_lists, by_index),
-            (row.kind, true, true),
-        );
-    }
+    let database = database_of(&rt, rt.alloc(), ICONS);
+    all_are_found(&rt, rt.alloc(), &database);
 }
 
 /// Whether the icons of a type are those of a row, by a cache that is open, and how many records were visited.
@@ -119,26 +129,36 @@ fn over_opened(
     (are_icons(&icons, row), icons.meter.nodes)
 }
 
-/// Once they are read back, the header alone is visited for them.
+/// Those of a row are found by the bytes, and once they are read back for the header alone.
+fn are_found_again(
+    rt: &impl Abort,
+    alloc: Global,
+    walked: &IndexedCache<'_>,
+    read: &IndexedCache<'_>,
+    row: &Row,
+) {
+    let (same, nodes) = over_opened(rt, alloc, walked, row);
+    let found = (row.kind, same, nodes > 1);
+    alike(rt, "bytes", found, (row.kind, true, true));
+    let again = over_opened(rt, alloc, read, row);
+    alike(rt, "read back", (row.kind, again), (row.kind, (true, 1)));
+}
+
+/// Those of each row are.
+fn all_are_found_again(rt: &impl Abort, alloc: Global, cache: &[u8]) {
+    let walked = opened(rt, alloc, cache);
+    let mut read = opened(rt, alloc, cache);
+    read.read_icons(alloc, &mut Meter::new())
+        .expect(rt, "icons");
+    for row in &ROWS {
+        are_found_again(rt, alloc, &walked, &read, row);
+    }
+}
+
 #[test]
 fn icons_read_back(rt: HostRuntime) {
-    let alloc = rt.alloc();
-    let bytes = cache_of(&rt, alloc, ICONS);
-    let walked = opened(&rt, &bytes);
-    let mut read = opened(&rt, &bytes);
-    read.read_icons(alloc, &mut Meter::new())
-        .expect(&rt, "icons");
-    for row in &ROWS {
-        let (same, nodes) = over_opened(&rt, alloc, &walked, row);
-        alike(
-            &rt,
-            "bytes",
-            (row.kind, same, nodes > 1),
-            (row.kind, true, true),
-        );
-        let again = over_opened(&rt, alloc, &read, row);
-        alike(&rt, "read back", (row.kind, again), (row.kind, (true, 1)));
-    }
+    let cache = cache_of(&rt, rt.alloc(), ICONS);
+    all_are_found_again(&rt, rt.alloc(), &cache);
 }
 
 /// Why there are no icons, if there are none.
@@ -149,19 +169,25 @@ fn cause_of(found: Result<Icons, Stopped>) -> Option<Cause> {
     }
 }
 
+/// Why the bytes give no icons, if they don't.
+fn cause_in(rt: &impl Abort, alloc: Global, cache: &[u8]) -> Option<Cause> {
+    let kind = TypeName::new(alloc, b"t/g").expect(rt, "a type");
+    cause_of(icon_of(alloc, Counted::new(cache), &kind))
+}
+
+/// The icons of a cache that is damaged at an offset.
+fn are_damaged(rt: &impl Abort, alloc: Global, cache: &[u8], at: usize) {
+    let mut indexed = opened(rt, alloc, cache);
+    let read = indexed.read_icons(alloc, &mut Meter::new()).err();
+    let walked = cause_in(rt, alloc, cache);
+    let again = cause_of(icon_again(alloc, &indexed, b"t/g"));
+    is_fault(rt, at, read, walked, again);
+}
+
 /// Where a list spells nothing, the walk finds its fault.
 #[test]
 fn damaged_icons(rt: HostRuntime) {
-    let alloc = rt.alloc();
-    let kind = TypeName::new(alloc, b"t/g").expect(&rt, "a type");
     for at in [4, 32, 36, 40] {
-        let bytes = damaged(at);
-        let mut indexed = opened(&rt, &bytes);
-        let read = indexed.read_icons(alloc, &mut Meter::new()).err();
-        alike(&rt, "read back", (at, read), (at, Some(Unread::NotSpelled)));
-        let walked = cause_of(icon_of(alloc, Counted::new(&bytes), &kind));
-        let again = cause_of(icon_again(alloc, &indexed, b"t/g"));
-        alike(&rt, "a fault", (at, walked.is_some()), (at, true));
-        alike(&rt, "found", (at, again), (at, walked));
+        are_damaged(&rt, rt.alloc(), &damaged(at), at);
     }
 }

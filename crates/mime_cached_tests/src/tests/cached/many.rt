@@ -9,14 +9,19 @@ use mime_store::write_cache;
 use std::alloc::Global;
 use std::process::Abort;
 
-/// The cache of a thousand literal rules of one type.
-fn of_a_thousand(rt: &impl Abort, alloc: Global) -> Vec<u8> {
+/// A thousand literal rules of one type.
+fn a_thousand(rt: &impl Abort, alloc: Global) -> Vec<u8> {
     let mut globs2 = Vec::new(alloc);
     for number in 0..1000 {
         let line = format!(in alloc; "50:t/a:f{number}\n").expect(rt, "a line");
         globs2.extend_from_slice(line.as_bytes()).expect(rt, "room");
     }
-    let database = of_rules(alloc, &globs2).expect(rt, "a database");
+    globs2
+}
+
+/// The cache of a thousand literal rules.
+fn of_a_thousand(rt: &impl Abort, alloc: Global) -> Vec<u8> {
+    let database = of_rules(alloc, &a_thousand(rt, alloc)).expect(rt, "a database");
     write_cache(alloc, &database, usize::MAX).expect(rt, "its cache")
 }
 

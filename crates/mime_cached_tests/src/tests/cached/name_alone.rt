@@ -107,14 +107,17 @@ fn wanted_before_the_globs(rt: HostRuntime) {
     }
 }
 
-/// By a cache that is opened once the rows are the same, before the names are read back and after that.
 #[test]
 fn rows_again(rt: HostRuntime) {
-    let alloc = rt.alloc();
-    let mut indexed = opened(&rt, &SAMPLE);
-    are_found_again(&rt, alloc, &indexed);
-    read_names(alloc, &mut indexed, true).expect(&rt, "names");
-    are_found_again(&rt, alloc, &indexed);
+    are_found_before_and_after(&rt, rt.alloc(), &SAMPLE);
+}
+
+/// By a cache that is opened once the rows are the same, before the names are read back and after that.
+fn are_found_before_and_after(rt: &impl Abort, alloc: Global, cache: &[u8]) {
+    let mut indexed = opened(rt, alloc, cache);
+    are_found_again(rt, alloc, &indexed);
+    read_names(alloc, &mut indexed, true).expect(rt, "names");
+    are_found_again(rt, alloc, &indexed);
 }
 
 /// Each row is answered by the sample, opened once.

@@ -6,7 +6,8 @@ use mime_base::{Host, Meter};
 use mime_lookup::{Cause, Order, Stopped};
 use mime_samples::caches::{PLAIN_LAYOUT, SAMPLE_BYTES};
 use mime_view::CacheFault;
-use std::test::Fail;
+use std::alloc::Global;
+use std::process::Abort;
 
 const GZIP: Option<&[u8]> = Some(&[0x1f, 0x8b, 8]);
 
@@ -90,24 +91,23 @@ fn rows(rt: HostRuntime) {
     are_answered(&rt, rt.alloc(), &ROWS);
 }
 
-#[test]
-fn name_too_long(rt: HostRuntime) -> Result<(), Fail> {
+/// A name of 4,097 bytes is refused, and its content left unread.
+fn is_refused(rt: &impl Abort, alloc: Global, order: Order) {
+    let mut content = Some(&b"hi\n"[..]);
+    let (name, host) = (&[b'a'; 4097], Host::Little);
+    let refused = look_up_over(alloc, &[], name, &mut content, host, order).err();
     let too_long = Stopped {
         cause: Cause::NameTooLong,
         read: 0,
         meter: Meter::new(),
     };
+    alike(rt, "refused", (order, refused), (order, Some(too_long)));
+    alike(rt, "unread", (order, content), (order, Some(&b"hi\n"[..])));
+}
+
+#[test]
+fn name_too_long(rt: HostRuntime) {
     for order in [Order::GlobsFirst, Order::MagicFirst] {
-        let mut content = Some(&b"hi\n"[..]);
-        let (alloc, name, host) = (rt.alloc(), &[b'a'; 4097], Host::Little);
-        let refused = look_up_over(alloc, &[], name, &mut content, host, order);
-        alike(
-            &rt,
-            "refused",
-            (order, refused.err()),
-            (order, Some(too_long)),
-        );
-        alike(&rt, "unread", (order, content), (order, Some(&b"hi\n"[..])));
+        is_refused(&rt, rt.alloc(), order);
     }
-    Ok(())
 }

@@ -3,8 +3,7 @@
 use crate::tests::checked::alike;
 use mime_base::{Counted, Host, Meter};
 use mime_lookup::{
-    Icons, Order, PaidCache, SniffedContent, icon_again, is_a_again, look_up_name_again,
-    sniff_again,
+    IndexedCache, Order, PaidCache, icon_again, is_a_again, look_up_name_again, sniff_again,
 };
 use mime_samples::caches::SAMPLE;
 use std::alloc::Global;
@@ -25,106 +24,116 @@ const ICONS_PRICE: u64 = 94;
 /// More answers than any price takes.
 const ANSWERS: u64 = 40;
 
-fn sample<'a>(rt: &impl Abort) -> PaidCache<'a> {
-    PaidCache::open(Counted::new(&SAMPLE), &mut Meter::new()).expect(rt, "an opened cache")
+/// What is asked of the sample.
+#[derive(Clone, Copy)]
+enum Question {
+    Name,
+    Content,
+    Type,
+    Icons,
+}
+
+fn opened<'a>(rt: &impl Abort, alloc: Global, cache: &'a [u8]) -> Box<PaidCache<'a>> {
+    let paid = PaidCache::open(Counted::new(cache), &mut Meter::new());
+    Box::new(alloc, paid.expect(rt, "an opened cache")).expect(rt, "room")
+}
+
+/// How many records an answer visits.
+fn visited_for(
+    rt: &impl Abort,
+    alloc: Global,
+    indexed: &IndexedCache<'_>,
+    question: Question,
+) -> u64 {
+    match question {
+        Question::Name => visited_for_a_name(rt, alloc, indexed),
+        Question::Content => visited_for_a_content(rt, indexed),
+        Question::Type => visited_for_a_type(rt, alloc, indexed),
+        Question::Icons => visited_for_icons(rt, alloc, indexed),
+    }
+}
+
+fn visited_for_a_name(rt: &impl Abort, alloc: Global, indexed: &IndexedCache<'_>) -> u64 {
+    let found = look_up_name_again(alloc, indexed, b"A.GZ", Order::GlobsFirst);
+    let found = found.expect(rt, "an answer");
+    alike(rt, "a name", (found.kind, found.wanted), (&b"t/g"[..], 0));
+    found.meter.nodes
+}
+
+fn visited_for_a_content(rt: &impl Abort, indexed: &IndexedCache<'_>) -> u64 {
+    let found = sniff_again(indexed, &[0x1f, 0x8b, 8], Host::Little);
+    let found = found.expect(rt, "a type");
+    let told = (found.kind, found.priority, found.read);
+    alike(rt, "a content", told, (&b"t/g"[..], Some(40), 3));
+    found.meter.nodes
+}
+
+fn visited_for_a_type(rt: &impl Abort, alloc: Global, indexed: &IndexedCache<'_>) -> u64 {
+    let found = is_a_again(alloc, indexed, b"t/h", b"t/m");
+    let (is, meter) = found.expect(rt, "an answer");
+    alike(rt, "is a", is, true);
+    meter.nodes
+}
+
+fn visited_for_icons(rt: &impl Abort, alloc: Global, indexed: &IndexedCache<'_>) -> u64 {
+    let icons = icon_again(alloc, indexed, b"t/h").expect(rt, "icons");
+    let told = (icons.icon.as_slice(), icons.generic.as_slice());
+    alike(rt, "icons", told, (&b"t-g"[..], &b"t-x-generic"[..]));
+    icons.meter.nodes
+}
+
+/// An answer pays by the records that it visited.
+fn pay(paid: &mut PaidCache<'_>, question: Question, nodes: u64) {
+    match question {
+        Question::Name => paid.pay(nodes, false),
+        Question::Content => paid.pay_sniffed(nodes),
+        Question::Type => paid.pay_types(nodes),
+        Question::Icons => paid.pay_icons(nodes),
+    }
+}
+
+/// Whether what is asked was read back: the names are known to be, the others are where less is visited than by a walk.
+fn is_read_back(indexed: &IndexedCache<'_>, question: Question, is_less: bool) -> bool {
+    match question {
+        Question::Name => indexed.has_names(),
+        _ => is_less,
+    }
+}
+
+/// What is asked of a cache again and again pays the price, and is read back once it has.
+fn is_paid(rt: &impl Abort, alloc: Global, cache: &[u8], question: Question, price: u64) {
+    let mut paid = opened(rt, alloc, cache);
+    let walked = visited_for(rt, alloc, paid.indexed(), question);
+    let mut visited: u64 = 0;
+    for _ in 0..ANSWERS {
+        paid.read_paid(alloc, &mut Meter::new());
+        let nodes = visited_for(rt, alloc, paid.indexed(), question);
+        let is_read = is_read_back(paid.indexed(), question, nodes < walked);
+        is_read_once_paid(rt, is_read, visited, price);
+        pay(&mut paid, question, nodes);
+        visited = visited.saturating_add(nodes);
+    }
+    alike(rt, "paid", visited >= price, true);
 }
 
 #[test]
 fn names_pay(rt: HostRuntime) {
-    let alloc = rt.alloc();
-    let mut paid = sample(&rt);
-    let mut visited: u64 = 0;
-    for _ in 0..ANSWERS {
-        paid.read_paid(alloc, &mut Meter::new());
-        is_read_once_paid(&rt, paid.indexed().has_names(), visited, NAMES_PRICE);
-        let found = look_up_name_again(alloc, paid.indexed(), b"A.GZ", Order::GlobsFirst).expect(
-            &rt,
-            "an answer",
-        );
-        alike(&rt, "a name", (found.kind, found.wanted), (&b"t/g"[..], 0));
-        paid.pay(found.meter.nodes, false);
-        visited = visited.saturating_add(found.meter.nodes);
-    }
-    alike(&rt, "paid", visited >= NAMES_PRICE, true);
+    is_paid(&rt, rt.alloc(), &SAMPLE, Question::Name, NAMES_PRICE);
 }
 
-fn sniffed<'a>(rt: &impl Abort, paid: &PaidCache<'a>) -> SniffedContent<'a> {
-    sniff_again(paid.indexed(), &[0x1f, 0x8b, 8], Host::Little).expect(rt, "a type")
-}
-
-/// A content visits less once the magic list is read back.
 #[test]
 fn contents_pay(rt: HostRuntime) {
-    let alloc = rt.alloc();
-    let mut paid = sample(&rt);
-    let walked = sniffed(&rt, &paid);
-    let mut visited: u64 = 0;
-    for _ in 0..ANSWERS {
-        paid.read_paid(alloc, &mut Meter::new());
-        let found = sniffed(&rt, &paid);
-        alike(
-            &rt,
-            "a content",
-            (found.kind, found.priority, found.read),
-            (&b"t/g"[..], Some(40), 3),
-        );
-        let is_read = found.meter.nodes < walked.meter.nodes;
-        is_read_once_paid(&rt, is_read, visited, MAGIC_PRICE);
-        paid.pay_sniffed(found.meter.nodes);
-        visited = visited.saturating_add(found.meter.nodes);
-    }
-    alike(&rt, "paid", visited >= MAGIC_PRICE, true);
+    is_paid(&rt, rt.alloc(), &SAMPLE, Question::Content, MAGIC_PRICE);
 }
 
-fn searched(rt: &impl Abort, alloc: Global, paid: &PaidCache<'_>) -> (bool, Meter) {
-    is_a_again(alloc, paid.indexed(), b"t/h", b"t/m").expect(rt, "an answer")
-}
-
-/// An answer whether a type is another visits less once the pairs are read back.
 #[test]
 fn types_pay(rt: HostRuntime) {
-    let alloc = rt.alloc();
-    let mut paid = sample(&rt);
-    let (_, walked) = searched(&rt, alloc, &paid);
-    let mut visited: u64 = 0;
-    for _ in 0..ANSWERS {
-        paid.read_paid(alloc, &mut Meter::new());
-        let (is, meter) = searched(&rt, alloc, &paid);
-        alike(&rt, "is a", is, true);
-        let is_read = meter.nodes < walked.nodes;
-        is_read_once_paid(&rt, is_read, visited, PAIRS_PRICE);
-        paid.pay_types(meter.nodes);
-        visited = visited.saturating_add(meter.nodes);
-    }
-    alike(&rt, "paid", visited >= PAIRS_PRICE, true);
+    is_paid(&rt, rt.alloc(), &SAMPLE, Question::Type, PAIRS_PRICE);
 }
 
-fn icons_of(rt: &impl Abort, alloc: Global, paid: &PaidCache<'_>) -> Icons {
-    icon_again(alloc, paid.indexed(), b"t/h").expect(rt, "icons")
-}
-
-/// The icons of a type visit less once they are read back.
 #[test]
 fn icons_pay(rt: HostRuntime) {
-    let alloc = rt.alloc();
-    let mut paid = sample(&rt);
-    let walked = icons_of(&rt, alloc, &paid);
-    let mut visited: u64 = 0;
-    for _ in 0..ANSWERS {
-        paid.read_paid(alloc, &mut Meter::new());
-        let icons = icons_of(&rt, alloc, &paid);
-        alike(
-            &rt,
-            "icons",
-            (icons.icon.as_slice(), icons.generic.as_slice()),
-            (&b"t-g"[..], &b"t-x-generic"[..]),
-        );
-        let is_read = icons.meter.nodes < walked.meter.nodes;
-        is_read_once_paid(&rt, is_read, visited, ICONS_PRICE);
-        paid.pay_icons(icons.meter.nodes);
-        visited = visited.saturating_add(icons.meter.nodes);
-    }
-    alike(&rt, "paid", visited >= ICONS_PRICE, true);
+    is_paid(&rt, rt.alloc(), &SAMPLE, Question::Icons, ICONS_PRICE);
 }
 
 /// It is read back before an answer exactly where so much was visited before it.

@@ -1,10 +1,9 @@
 //! Subclasses by the aliases and the parents of a cache that were read back: they are those over its bytes, and no record but the header
 //! is visited for them while each type has one parent.
 
-use super::{cache_of, opened, read_pairs};
+use super::{cache_of, is_fault, opened, read_pairs};
 use crate::tests::checked::alike;
 use mime_base::{Counted, Meter, TypeName};
-use mime_load::Unread;
 use mime_lookup::{Cause, Stopped, is_a, is_a_again};
 use mime_samples::caches::damaged;
 use mime_samples::texts::{EMPTY, Texts};
@@ -164,32 +163,41 @@ fn is_found(rt: &impl Abort, row: &Row, found: Result<(bool, Meter), Stopped>) {
     );
 }
 
+/// So is what a search over the bytes of a cache finds.
+fn is_found_in(rt: &impl Abort, alloc: Global, cache: &[u8], row: &Row) {
+    let walked = search_bytes(rt, alloc, cache, row.kind, row.base);
+    alike(rt, "bytes", (row.kind, walked), (row.kind, Ok(row.is)));
+}
+
+/// So is what both find of each row.
+fn are_found(rt: &impl Abort, alloc: Global, cache: &[u8]) {
+    let mut indexed = opened(rt, alloc, cache);
+    read_pairs(alloc, &mut indexed, true).expect(rt, "pairs");
+    for row in &ROWS {
+        is_found(rt, row, is_a_again(alloc, &indexed, row.kind, row.base));
+        is_found_in(rt, alloc, cache, row);
+    }
+}
+
 #[test]
 fn pairs_read_back(rt: HostRuntime) {
-    let alloc = rt.alloc();
-    let bytes = cache_of(&rt, alloc, SUBCLASSES);
-    let mut indexed = opened(&rt, &bytes);
-    read_pairs(alloc, &mut indexed, true).expect(&rt, "pairs");
-    for row in &ROWS {
-        let found = is_a_again(alloc, &indexed, row.kind, row.base);
-        is_found(&rt, row, found);
-        let walked = search_bytes(&rt, alloc, &bytes, row.kind, row.base);
-        alike(&rt, "bytes", (row.kind, walked), (row.kind, Ok(row.is)));
-    }
+    let cache = cache_of(&rt, rt.alloc(), SUBCLASSES);
+    are_found(&rt, rt.alloc(), &cache);
+}
+
+/// The pairs of a cache that is damaged at an offset.
+fn are_damaged(rt: &impl Abort, alloc: Global, cache: &[u8], at: usize) {
+    let mut indexed = opened(rt, alloc, cache);
+    let read = read_pairs(alloc, &mut indexed, true).err();
+    let walked = search_bytes(rt, alloc, cache, b"t/g", b"t/z").err();
+    let again = told(is_a_again(alloc, &indexed, b"t/g", b"t/z")).err();
+    is_fault(rt, at, read, walked, again);
 }
 
 /// Where a list spells nothing, the walk finds its fault.
 #[test]
 fn damaged_pairs(rt: HostRuntime) {
-    let alloc = rt.alloc();
     for at in [4, 8, 40, 52, 56, 60, 64, 68] {
-        let bytes = damaged(at);
-        let mut indexed = opened(&rt, &bytes);
-        let read = read_pairs(alloc, &mut indexed, true).err();
-        alike(&rt, "read back", (at, read), (at, Some(Unread::NotSpelled)));
-        let walked = search_bytes(&rt, alloc, &bytes, b"t/g", b"t/z");
-        let again = told(is_a_again(alloc, &indexed, b"t/g", b"t/z"));
-        alike(&rt, "a fault", (at, walked.is_err()), (at, true));
-        alike(&rt, "found", (at, again), (at, walked));
+        are_damaged(&rt, rt.alloc(), &damaged(at), at);
     }
 }
