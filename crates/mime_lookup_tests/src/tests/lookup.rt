@@ -20,14 +20,14 @@ mod steps;
 
 use crate::tests::checked::alike;
 use crate::tests::lookup::pieces::{is_answered_in_pieces, is_interrupted, is_refused_by_failures};
-use mime_base::{Counted, Database, Host};
+use mime_base::{Counted, Database, Host, Meter};
 use mime_lookup::{
-    Answer, Cause, Content, IndexedDatabase, Order, Stopped, look_up, look_up_indexed,
-    look_up_plain,
+    Answer, Cause, Content, IndexedCache, IndexedDatabase, Order, Stopped, look_up,
+    look_up_indexed, look_up_plain,
 };
-use mime_samples::texts::{Texts, merged};
+use mime_samples::texts::{EMPTY, Texts, merged, of_rules};
 use mime_store::write_cache;
-use mime_tool::answer;
+use mime_tool::{AnswerFault, answer};
 use std::alloc::Global;
 use std::process::Abort;
 
@@ -39,6 +39,29 @@ pub fn outcome_of<'a>(found: Result<Answer<'a>, Stopped>) -> Outcome<'a> {
         Ok(answer) => Ok((answer.kind, answer.read)),
         Err(stopped) => Err((stopped.cause, stopped.read)),
     }
+}
+
+/// The database of directories. It is boxed, so that to let it go is one call, whose proof is short.
+pub fn database_of(rt: &impl Abort, alloc: Global, dirs: &[Texts<'_>]) -> Box<Database> {
+    let database = merged(alloc, dirs).expect(rt, "a database");
+    Box::new(alloc, database).expect(rt, "room")
+}
+
+/// The database of a text of glob rules, boxed too.
+fn of_globs(rt: &impl Abort, alloc: Global, globs2: &[u8]) -> Box<Database> {
+    let database = of_rules(alloc, globs2).expect(rt, "a database");
+    Box::new(alloc, database).expect(rt, "room")
+}
+
+/// The database of a text of magic.
+fn of_magic(rt: &impl Abort, alloc: Global, magic: &[u8]) -> Box<Database> {
+    let texts = Texts { magic, ..EMPTY };
+    database_of(rt, alloc, &[texts])
+}
+
+/// The bytes of the cache of a database.
+fn cache_of(rt: &impl Abort, alloc: Global, database: &Database) -> Vec<u8> {
+    write_cache(alloc, database, usize::MAX).expect(rt, "its cache")
 }
 
 /// A name that is looked up, and its outcome.
@@ -59,19 +82,35 @@ fn are_answered_alike<R: Content + Drop>(
     asked: &Asked<'_>,
     contents: (Option<R>, Option<R>),
 ) {
-    let Asked {
-        name,
-        file,
-        host,
-        order,
-        outcome,
-    } = *asked;
-    let (mut of_lists, mut of_cache) = contents;
-    let found = look_up_lists(alloc, database, file, &mut of_lists, host, order);
-    is_outcome(rt, name, "by the lists", found, outcome);
-    let cache = write_cache(alloc, database, usize::MAX).expect(rt, "its cache");
-    let found = look_up_cache(alloc, &cache, file, &mut of_cache, host, order);
-    is_outcome(rt, name, "by the cache", found, outcome);
+    let (of_lists, of_cache) = contents;
+    is_answered_by_lists(rt, alloc, database, asked, of_lists);
+    is_answered_by_cache(rt, alloc, &cache_of(rt, alloc, database), asked, of_cache);
+}
+
+/// What is asked has its outcome by the lists of a database.
+fn is_answered_by_lists<R: Content + Drop>(
+    rt: &impl Abort,
+    alloc: Global,
+    database: &Database,
+    asked: &Asked<'_>,
+    content: Option<R>,
+) {
+    let (mut content, file) = (content, asked.file);
+    let found = look_up_lists(alloc, database, file, &mut content, asked.host, asked.order);
+    is_outcome(rt, asked.name, "by the lists", found, asked.outcome);
+}
+
+/// What is asked has its outcome by the bytes of a cache.
+fn is_answered_by_cache<R: Content + Drop>(
+    rt: &impl Abort,
+    alloc: Global,
+    cache: &[u8],
+    asked: &Asked<'_>,
+    content: Option<R>,
+) {
+    let (mut content, file) = (content, asked.file);
+    let found = look_up_cache(alloc, cache, file, &mut content, asked.host, asked.order);
+    is_outcome(rt, asked.name, "by the cache", found, asked.outcome);
 }
 
 /// The outcome of a lookup by the lists of a database, of which nothing is known.
@@ -120,13 +159,11 @@ struct Row {
 fn are_answered(rt: &impl Abort, alloc: Global, rows: &[Row]) {
     for row in rows {
         is_answered(rt, alloc, row);
-        is_answered_from_texts(rt, alloc, row);
     }
 }
 
-/// A row is answered by its type, by the lists and by the cache.
+/// A row is answered by its type.
 fn is_answered(rt: &impl Abort, alloc: Global, row: &Row) {
-    let database = merged(alloc, row.dirs).expect(rt, "a database");
     let asked = Asked {
         name: row.name,
         file: row.file,
@@ -134,11 +171,23 @@ fn is_answered(rt: &impl Abort, alloc: Global, row: &Row) {
         order: row.order,
         outcome: Ok((row.kind, row.read)),
     };
-    are_answered_alike(rt, alloc, &database, &asked, (row.content, row.content));
-    is_answered_by_index(rt, alloc, &database, &asked, row.content);
-    match row.content {
-        Some(content) => is_answered_by_reads(rt, alloc, &database, &asked, content),
-        None => {}
+    let database = database_of(rt, alloc, row.dirs);
+    is_answered_by_each(rt, alloc, &database, &asked, row.content);
+    is_answered_from_texts(rt, alloc, row.dirs, &asked, row.content);
+}
+
+/// What is asked has its outcome by the lists, by the cache and by the index of a database.
+fn is_answered_by_each(
+    rt: &impl Abort,
+    alloc: Global,
+    database: &Database,
+    asked: &Asked<'_>,
+    content: Option<&[u8]>,
+) {
+    are_answered_alike(rt, alloc, database, asked, (content, content));
+    is_answered_by_index(rt, alloc, database, asked, content);
+    if let Some(content) = content {
+        is_answered_by_reads(rt, alloc, database, asked, content);
     }
 }
 
@@ -150,17 +199,11 @@ fn is_answered_by_index(
     asked: &Asked<'_>,
     content: Option<&[u8]>,
 ) {
-    let Asked {
-        name,
-        file,
-        host,
-        order,
-        outcome,
-    } = *asked;
     let index = index_of(rt, alloc, database);
-    let mut content = content;
-    let found = outcome_of(look_up_indexed(alloc, &index, file, &mut content, host, order));
-    is_outcome(rt, name, "by the index", found, outcome);
+    let (mut content, file) = (content, asked.file);
+    let found = look_up_indexed(alloc, &index, file, &mut content, asked.host, asked.order);
+    let found = outcome_of(found);
+    is_outcome(rt, asked.name, "by the index", found, asked.outcome);
 }
 
 /// The index of a database. It is boxed, so that to let it go is one call, whose proof is short.
@@ -184,6 +227,12 @@ pub fn index_of<'a>(
     index
 }
 
+/// A cache that is opened. It is boxed too.
+pub fn opened<'a>(rt: &impl Abort, alloc: Global, cache: &'a [u8]) -> Box<IndexedCache<'a>> {
+    let indexed = IndexedCache::open(Counted::new(cache), &mut Meter::new());
+    Box::new(alloc, indexed.expect(rt, "an opened cache")).expect(rt, "room")
+}
+
 /// The content comes in pieces, with interruptions and failures.
 fn is_answered_by_reads(
     rt: &impl Abort,
@@ -197,13 +246,24 @@ fn is_answered_by_reads(
     is_refused_by_failures(rt, alloc, database, asked, content)
 }
 
-/// A row is answered by its type from the texts of its directories in one run.
-fn is_answered_from_texts(rt: &impl Abort, alloc: Global, row: &Row) {
-    let (file, mut content) = (row.file, row.content);
-    let found = answer(alloc, row.dirs, file, &mut content, row.host, row.order).expect(
-        rt,
-        "an answer",
-    );
-    let given = ("from texts", found.kind.as_slice(), found.read);
-    alike(rt, row.name, given, ("from texts", row.kind, row.read));
+/// What is asked has its outcome from the texts of directories in one run.
+fn is_answered_from_texts<R: Content + Drop>(
+    rt: &impl Abort,
+    alloc: Global,
+    dirs: &[Texts<'_>],
+    asked: &Asked<'_>,
+    content: Option<R>,
+) {
+    let (mut content, file) = (content, asked.file);
+    match answer(alloc, dirs, file, &mut content, asked.host, asked.order) {
+        Err(AnswerFault::Lookup(stopped)) => {
+            let found = Err((stopped.cause, stopped.read));
+            is_outcome(rt, asked.name, "from texts", found, asked.outcome);
+        }
+        found => {
+            let found = found.expect(rt, "an answer");
+            let found = Ok((found.kind.as_slice(), found.read));
+            is_outcome(rt, asked.name, "from texts", found, asked.outcome);
+        }
+    }
 }

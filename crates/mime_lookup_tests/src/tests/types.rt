@@ -4,14 +4,14 @@
 //! of `t/g`, its one type that has any, stand at 64.
 
 use crate::tests::checked::alike;
-use crate::tests::lookup::unprepared_index_of;
-use mime_base::{Counted, Database, Meter, TypeName};
+use crate::tests::lookup::{database_of, opened, unprepared_index_of};
+use mime_base::{Counted, Database, TypeName};
 use mime_lookup::{
-    Cause, Icons, IndexedCache, IndexedDatabase, icon_again, icon_of, icon_of_plain, is_a,
-    is_a_again, is_a_indexed, is_a_plain,
+    Cause, Icons, IndexedDatabase, icon_again, icon_of, icon_of_plain, is_a, is_a_again,
+    is_a_indexed, is_a_plain,
 };
 use mime_samples::caches::{SAMPLE, changed, damaged, write_at};
-use mime_samples::texts::{EMPTY, SAMPLE_TEXTS, Texts, merged};
+use mime_samples::texts::{EMPTY, SAMPLE_TEXTS, Texts};
 use mime_store::write_cache;
 use mime_view::CacheFault;
 use std::alloc::Global;
@@ -92,7 +92,7 @@ static WRITTEN: [IconRow; 3] = [
 
 #[test]
 fn icons_that_are_named(rt: HostRuntime) {
-    let database = merged(rt.alloc(), &[WITH_ICONS]).expect(&rt, "a database");
+    let database = database_of(&rt, rt.alloc(), &[WITH_ICONS]);
     let bytes = write_cache(rt.alloc(), &database, 1024).expect(&rt, "its cache");
     for row in &WRITTEN {
         let same = has_icons(&rt, rt.alloc(), &bytes, row);
@@ -107,21 +107,30 @@ fn has_icons_over(rt: &impl Abort, alloc: Global, database: &Database, row: &Ico
     are_icons(&icons, row)
 }
 
-#[test]
-fn icons_by_a_database(rt: HostRuntime) {
-    let tables = [(SAMPLE_TEXTS, &OF_THE_SAMPLE), (WITH_ICONS, &WRITTEN)];
-    for (texts, rows) in tables {
-        let database = merged(rt.alloc(), &[texts]).expect(&rt, "a database");
-        for row in rows {
-            let same = has_icons_over(&rt, rt.alloc(), &database, row);
-            alike(&rt, "icons", (row.kind, same), (row.kind, true));
-        }
+/// The database of a directory has the icons of these rows.
+fn have_icons_over(rt: &impl Abort, alloc: Global, texts: Texts<'_>, rows: &[IconRow]) {
+    let database = database_of(rt, alloc, &[texts]);
+    for row in rows {
+        let same = has_icons_over(rt, alloc, &database, row);
+        alike(rt, "icons", (row.kind, same), (row.kind, true));
     }
 }
 
 #[test]
+fn icons_by_a_database(rt: HostRuntime) {
+    have_icons_over(&rt, rt.alloc(), SAMPLE_TEXTS, &OF_THE_SAMPLE);
+    have_icons_over(&rt, rt.alloc(), WITH_ICONS, &WRITTEN);
+}
+
+/// Why a cache gives no icons, if it doesn't, and how much was read.
+fn stop_of_icons(rt: &impl Abort, alloc: Global, cache: &[u8]) -> Option<(Cause, u64)> {
+    let kind = TypeName::new(alloc, b"t/g").expect(rt, "a type");
+    let icons = icon_of(alloc, Counted::new(cache), &kind);
+    icons.err().map(|stopped| (stopped.cause, stopped.read))
+}
+
+#[test]
 fn icons_of_damaged_caches(rt: HostRuntime) {
-    let kind = TypeName::new(rt.alloc(), b"t/g").expect(&rt, "a type");
     let rows: [(&str, usize, CacheFault); 5] = [
         ("the version", 0, CacheFault::Version(0xffff, 0xffff)),
         ("the offset of the aliases", 4, FAR),
@@ -130,9 +139,7 @@ fn icons_of_damaged_caches(rt: HostRuntime) {
         ("the count of the aliases", 40, CacheFault::OutOfRange(40)),
     ];
     for (name, at, fault) in rows {
-        let bytes = damaged(at);
-        let icons = icon_of(rt.alloc(), Counted::new(&bytes), &kind);
-        let stop = icons.err().map(|stopped| (stopped.cause, stopped.read));
+        let stop = stop_of_icons(&rt, rt.alloc(), &damaged(at));
         alike(&rt, name, stop, Some((Cause::Cache(fault), 0)));
     }
 }
@@ -140,12 +147,10 @@ fn icons_of_damaged_caches(rt: HostRuntime) {
 /// Where both lists of icons lie outside, the fault is that of the icons.
 #[test]
 fn the_icon_is_looked_for_first(rt: HostRuntime) {
-    let kind = TypeName::new(rt.alloc(), b"t/g").expect(&rt, "a type");
     let bytes = changed(changed(SAMPLE, 32, 1_000), 36, 2_000);
-    let icons = icon_of(rt.alloc(), Counted::new(&bytes), &kind);
-    let stop = icons.err().map(|stopped| stopped.cause);
+    let stop = stop_of_icons(&rt, rt.alloc(), &bytes);
     let fault = Cause::Cache(CacheFault::OutOfRange(1_000));
-    alike(&rt, "fault", stop, Some(fault));
+    alike(&rt, "fault", stop, Some((fault, 0)));
 }
 
 /// Whether a type is another or a subclass of it, by a cache.
@@ -299,19 +304,24 @@ static SUBCLASS_ROWS: [(&[u8], &[u8], bool); 26] = [
     (b"inode/x", b"application/octet-stream", false),
 ];
 
-#[test]
-fn subclasses_by_an_index(rt: HostRuntime) {
-    let database = merged(rt.alloc(), &[SUBCLASSES]).expect(&rt, "a database");
-    let index = unprepared_index_of(&rt, rt.alloc(), &database);
+/// Each row is answered by an index.
+fn lead_by_index(rt: &impl Abort, alloc: Global, database: &Database) {
+    let index = unprepared_index_of(rt, alloc, database);
     for &(kind, base, is) in &SUBCLASS_ROWS {
-        let found = leads_by_index(&rt, rt.alloc(), &index, kind, base);
-        alike(&rt, "is a", (kind, base, found), (kind, base, is));
+        let found = leads_by_index(rt, alloc, &index, kind, base);
+        alike(rt, "is a", (kind, base, found), (kind, base, is));
     }
 }
 
 #[test]
+fn subclasses_by_an_index(rt: HostRuntime) {
+    let database = database_of(&rt, rt.alloc(), &[SUBCLASSES]);
+    lead_by_index(&rt, rt.alloc(), &database);
+}
+
+#[test]
 fn subclasses_by_a_database(rt: HostRuntime) {
-    let database = merged(rt.alloc(), &[SUBCLASSES]).expect(&rt, "a database");
+    let database = database_of(&rt, rt.alloc(), &[SUBCLASSES]);
     for &(kind, base, is) in &SUBCLASS_ROWS {
         let found = leads_over(&rt, rt.alloc(), &database, kind, base);
         alike(&rt, "is a", (kind, base, found), (kind, base, is));
@@ -332,12 +342,13 @@ fn counts_of(
     ((searched.nodes, searched.bytes), (found.nodes, found.bytes))
 }
 
-/// The same by the sample, opened once: what is answered too.
-fn told_again(rt: &impl Abort, alloc: Global) -> (bool, bool, ((u64, u64), (u64, u64))) {
-    let indexed = IndexedCache::open(Counted::new(&SAMPLE), &mut Meter::new()).expect(
-        rt,
-        "an opened cache",
-    );
+/// The same by a cache, opened once: what is answered too.
+fn told_again(
+    rt: &impl Abort,
+    alloc: Global,
+    cache: &[u8],
+) -> (bool, bool, ((u64, u64), (u64, u64))) {
+    let indexed = opened(rt, alloc, cache);
     let (is, searched) = is_a_again(alloc, &indexed, b"t/h", b"t/m").expect(rt, "an answer");
     let icons = icon_again(alloc, &indexed, b"t/h").expect(rt, "icons");
     let found = icons.meter;
@@ -352,7 +363,7 @@ fn counts_of_the_sample(rt: HostRuntime) {
     let base = TypeName::new(rt.alloc(), b"t/m").expect(&rt, "a type");
     let (wanted, alloc) = (((13, 30), (6, 8)), rt.alloc());
     alike(&rt, "counted", counts_of(&rt, alloc, &kind, &base), wanted);
-    let again = told_again(&rt, alloc);
+    let again = told_again(&rt, alloc, &SAMPLE);
     alike(&rt, "again", again, (true, true, wanted));
 }
 

@@ -1,11 +1,11 @@
 //! Names that several rules match, in the order that asks the kept ones first and in that which asks all.
 
-use super::{Row, are_answered};
-use crate::tests::checked::alike;
+use super::{Asked, Row, is_answered, is_answered_from_texts};
 use mime_base::Host;
 use mime_lookup::Order;
 use mime_samples::texts::{EMPTY, Texts};
-use mime_tool::answer;
+use std::alloc::Global;
+use std::process::Abort;
 
 /// A name, a content, and the type and how much was read of it in both orders.
 struct Both {
@@ -163,26 +163,33 @@ static ROWS: [Both; 13] = [
     },
 ];
 
+/// A row is answered under an order.
+fn is_ordered(
+    rt: &impl Abort,
+    alloc: Global,
+    row: &Both,
+    order: Order,
+    wanted: (&'static [u8], u64),
+) {
+    let (kind, read) = wanted;
+    let row = Row {
+        name: row.name,
+        dirs: row.dirs,
+        file: row.file,
+        content: row.content,
+        host: Host::Little,
+        order,
+        kind,
+        read,
+    };
+    is_answered(rt, alloc, &row);
+}
+
 #[test]
 fn rows(rt: HostRuntime) {
     for row in &ROWS {
-        let orders = [
-            (Order::GlobsFirst, row.globs_first),
-            (Order::AllGlobs, row.all_globs),
-        ];
-        for (order, (kind, read)) in orders {
-            let asked = Row {
-                name: row.name,
-                dirs: row.dirs,
-                file: row.file,
-                content: row.content,
-                host: Host::Little,
-                order,
-                kind,
-                read,
-            };
-            are_answered(&rt, rt.alloc(), &[asked]);
-        }
+        is_ordered(&rt, rt.alloc(), row, Order::GlobsFirst, row.globs_first);
+        is_ordered(&rt, rt.alloc(), row, Order::AllGlobs, row.all_globs);
     }
 }
 
@@ -196,19 +203,18 @@ const SOURCES: Texts<'static> = Texts {
 /// What is never kept is no candidate: a source file is of its own type, whatever it begins with.
 #[test]
 fn hidden_rules(rt: HostRuntime) {
-    let types: [(&[u8], &[u8]); 2] = [(b"main.C", b"text/x-c++src"), (b"main.c", b"text/x-csrc")];
+    let types: [(&[u8], &'static [u8]); 2] = [
+        (b"main.C", b"text/x-c++src"),
+        (b"main.c", b"text/x-csrc"),
+    ];
     for (file, kind) in types {
-        let mut content = Some(&b"/* x"[..]);
-        let (alloc, host, order) = (rt.alloc(), Host::Little, Order::AllGlobs);
-        let found = answer(alloc, &[SOURCES], file, &mut content, host, order).expect(
-            &rt,
-            "an answer",
-        );
-        alike(
-            &rt,
-            "hidden",
-            (found.kind.as_slice(), found.read),
-            (kind, 0),
-        );
+        let asked = Asked {
+            name: "hidden",
+            file,
+            host: Host::Little,
+            order: Order::AllGlobs,
+            outcome: Ok((kind, 0)),
+        };
+        is_answered_from_texts(&rt, rt.alloc(), &[SOURCES], &asked, Some(&b"/* x"[..]));
     }
 }

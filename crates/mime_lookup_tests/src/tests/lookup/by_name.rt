@@ -1,10 +1,9 @@
 //! Types of names without content, over glob rules alone.
 
-use super::{Asked, are_answered_alike, outcome_of};
+use super::{Asked, are_answered_alike, of_globs, outcome_of};
 use crate::tests::checked::alike;
 use mime_base::{Database, GlobRule, Host, Meter, glob_matches};
 use mime_lookup::{Answer, Cause, Order, Stopped, look_up_plain};
-use mime_samples::texts::of_rules;
 use std::alloc::Global;
 use std::process::Abort;
 
@@ -107,7 +106,7 @@ fn look_up_name<'a>(
 
 /// A row is answered by its type.
 fn is_answered(rt: &impl Abort, alloc: Global, row: &Row) {
-    let database = of_rules(alloc, row.globs2).expect(rt, "a database");
+    let database = of_globs(rt, alloc, row.globs2);
     let asked = Asked {
         name: row.name,
         file: row.file,
@@ -145,18 +144,23 @@ fn is_limit(rt: &impl Abort, alloc: Global, database: &Database) {
 
 #[test]
 fn name_too_long(rt: HostRuntime) {
-    let database = of_rules(rt.alloc(), ARCHIVES).expect(&rt, "a database");
+    let database = of_globs(&rt, rt.alloc(), ARCHIVES);
     is_limit(&rt, rt.alloc(), &database);
+}
+
+/// A name counts what matching it counts.
+fn is_counted(rt: &impl Abort, alloc: Global, database: &Database) {
+    let counted = counted_by(&database.rules);
+    let answer = look_up_name(alloc, database, b"Data.tar.gz").expect(rt, "an answer");
+    let meter = answer.meter;
+    alike(rt, "counted", meter, counted);
+    alike(rt, "nothing is counted", meter == Meter::new(), false);
 }
 
 #[test]
 fn counts_what_matching_counts(rt: HostRuntime) {
-    let database = of_rules(rt.alloc(), ARCHIVES).expect(&rt, "a database");
-    let counted = counted_by(&database.rules);
-    let answer = look_up_name(rt.alloc(), &database, b"Data.tar.gz").expect(&rt, "an answer");
-    let meter = answer.meter;
-    alike(&rt, "counted", meter, counted);
-    alike(&rt, "nothing is counted", meter == Meter::new(), false);
+    let database = of_globs(&rt, rt.alloc(), ARCHIVES);
+    is_counted(&rt, rt.alloc(), &database);
 }
 
 /// What matching a name by each rule counts.

@@ -6,12 +6,10 @@ ghost use Rattle.mime_base.specs.Database.Limits.{IsWithinLimits};
 ghost use Rattle.mime_base.specs.Format.Spells.{Spells};
 ghost use Rattle.mime_lookup.specs.CheckingOrder.{globs_suffice};
 
-use super::{Outcome, outcome_of};
+use super::{Outcome, cache_of, of_globs, outcome_of};
 use crate::tests::checked::alike;
 use mime_base::{Counted, Database, Host};
 use mime_lookup::{Answer, Cause, Content, Order, ReadFault, Stopped, look_up, look_up_plain};
-use mime_samples::texts::of_rules;
-use mime_store::write_cache;
 use std::alloc::Global;
 use std::io;
 use std::io::{ErrorKind, Read};
@@ -151,8 +149,8 @@ fn is_unread(rt: &impl Abort, alloc: Global, database: &Database, cache: &[u8], 
 #[test]
 fn contents_that_tell_their_health(rt: HostRuntime) {
     let alloc = rt.alloc();
-    let database = of_rules(alloc, b"50:t/m:mk\n").expect(&rt, "a database");
-    let cache = write_cache(alloc, &database, usize::MAX).expect(&rt, "its cache");
+    let database = of_globs(&rt, alloc, b"50:t/m:mk\n");
+    let cache = cache_of(&rt, alloc, &database);
     are_read(&rt, alloc, &database, &cache);
     for row in &UNREAD {
         is_unread(&rt, alloc, &database, &cache, row);

@@ -1,11 +1,10 @@
 //! The rules that match a name: by an index of a database, and by its cache before and after its names are read back.
 
-use super::unprepared_index_of;
+use super::{cache_of, database_of, opened, unprepared_index_of};
 use crate::tests::checked::alike;
-use mime_base::{Counted, Meter};
+use mime_base::{Database, Meter};
 use mime_lookup::{Cause, IndexedCache, IndexedDatabase, Stopped, hits_again, hits_indexed};
-use mime_samples::texts::{EMPTY, Texts, merged};
-use mime_store::write_cache;
+use mime_samples::texts::{EMPTY, Texts};
 use mime_view::{CacheFault, RuleHits};
 use std::alloc::Global;
 use std::process::Abort;
@@ -71,86 +70,98 @@ fn again<'a>(
 
 /// The cache of the texts.
 fn cache_of_texts(rt: &impl Abort, alloc: Global) -> Vec<u8> {
-    let database = merged(alloc, &[TEXTS]).expect(rt, "a database");
-    write_cache(alloc, &database, usize::MAX).expect(rt, "its cache")
-}
-
-/// A cache that is opened.
-fn opened<'a>(rt: &impl Abort, cache: &'a [u8]) -> IndexedCache<'a> {
-    IndexedCache::open(Counted::new(cache), &mut Meter::new()).expect(rt, "an opened cache")
+    cache_of(rt, alloc, &database_of(rt, alloc, &[TEXTS]))
 }
 
 /// A cache that is opened, with what names need read back.
-fn names_read_back<'a>(rt: &impl Abort, alloc: Global, cache: &'a [u8]) -> IndexedCache<'a> {
-    let mut indexed = opened(rt, cache);
+fn names_read_back<'a>(rt: &impl Abort, alloc: Global, cache: &'a [u8]) -> Box<IndexedCache<'a>> {
+    let mut indexed = opened(rt, alloc, cache);
     indexed
         .read_names(alloc, &mut Meter::new())
         .expect(rt, "names");
     indexed
 }
 
+/// Each row is found by an index.
+fn are_indexed(rt: &impl Abort, alloc: Global, database: &Database) {
+    let index = unprepared_index_of(rt, alloc, database);
+    for row in &ROWS {
+        let (found, _) = hits_indexed(alloc, &index, row.0).expect(rt, "hits");
+        are_of(rt, "index", &found, row);
+    }
+}
+
 #[test]
 fn by_an_index(rt: HostRuntime) {
-    let alloc = rt.alloc();
-    let database = merged(alloc, &[TEXTS]).expect(&rt, "a database");
-    let index = unprepared_index_of(&rt, alloc, &database);
+    are_indexed(&rt, rt.alloc(), &database_of(&rt, rt.alloc(), &[TEXTS]));
+}
+
+/// Each row is found by a walk.
+fn are_walked(rt: &impl Abort, alloc: Global, cache: &[u8]) {
+    let opened = opened(rt, alloc, cache);
     for row in &ROWS {
-        let (found, _) = hits_indexed(alloc, &index, row.0).expect(&rt, "hits");
-        are_of(&rt, "index", &found, row);
+        let found = again(alloc, &opened, row.0, u64::MAX, &mut Meter::new());
+        are_of(rt, "walk", &found.expect(rt, "hits"), row);
     }
 }
 
 #[test]
 fn by_a_walk(rt: HostRuntime) {
-    let alloc = rt.alloc();
-    let bytes = cache_of_texts(&rt, alloc);
-    let opened = opened(&rt, &bytes);
+    are_walked(&rt, rt.alloc(), &cache_of_texts(&rt, rt.alloc()));
+}
+
+/// A row is found by what was read back, and no record is visited for it.
+fn is_read_back(rt: &impl Abort, alloc: Global, indexed: &IndexedCache<'_>, row: &Row) {
+    let mut meter = Meter::new();
+    let found = again(alloc, indexed, row.0, u64::MAX, &mut meter);
+    are_of(rt, "read back", &found.expect(rt, "hits"), row);
+    alike(rt, "visited", (meter.nodes, meter.bytes), (0, 0));
+}
+
+/// Each row is.
+fn are_read_back(rt: &impl Abort, alloc: Global, cache: &[u8]) {
+    let indexed = names_read_back(rt, alloc, cache);
     for row in &ROWS {
-        let found = again(alloc, &opened, row.0, u64::MAX, &mut Meter::new());
-        are_of(&rt, "walk", &found.expect(&rt, "hits"), row);
+        is_read_back(rt, alloc, &indexed, row);
     }
 }
 
 #[test]
 fn by_what_was_read_back(rt: HostRuntime) {
-    let alloc = rt.alloc();
-    let bytes = cache_of_texts(&rt, alloc);
-    let indexed = names_read_back(&rt, alloc, &bytes);
-    for row in &ROWS {
-        let mut meter = Meter::new();
-        let found = again(alloc, &indexed, row.0, u64::MAX, &mut meter);
-        are_of(&rt, "read back", &found.expect(&rt, "hits"), row);
-        alike(&rt, "visited", (meter.nodes, meter.bytes), (0, 0));
-    }
+    are_read_back(&rt, rt.alloc(), &cache_of_texts(&rt, rt.alloc()));
 }
 
 /// A name of 4,096 bytes is looked up, one of 4,097 is too long.
-#[test]
-fn long_names(rt: HostRuntime) {
-    let alloc = rt.alloc();
-    let database = merged(alloc, &[TEXTS]).expect(&rt, "a database");
-    let index = unprepared_index_of(&rt, alloc, &database);
+fn is_limit(rt: &impl Abort, alloc: Global, database: &Database) {
+    let index = unprepared_index_of(rt, alloc, database);
     let name = [b'm'; 4097];
-    let (found, _) = hits_indexed(alloc, &index, &name[..4096]).expect(&rt, "hits");
-    alike(&rt, "4096", found.rules.len(), 1);
+    let (found, _) = hits_indexed(alloc, &index, &name[..4096]).expect(rt, "hits");
+    alike(rt, "4096", found.rules.len(), 1);
     let refused = hits_indexed(alloc, &index, &name);
     let stopped = Stopped {
         cause: Cause::NameTooLong,
         read: 0,
         meter: Meter::new(),
     };
-    alike(&rt, "4097", refused.err(), Some(stopped));
+    alike(rt, "4097", refused.err(), Some(stopped));
+}
+
+#[test]
+fn long_names(rt: HostRuntime) {
+    is_limit(&rt, rt.alloc(), &database_of(&rt, rt.alloc(), &[TEXTS]));
 }
 
 /// Where more rules match than records are left, the budget is spent, whatever was read back.
+fn is_spent(rt: &impl Abort, alloc: Global, cache: &[u8]) {
+    let indexed = names_read_back(rt, alloc, cache);
+    let enough = again(alloc, &indexed, b"M.GZ", 5, &mut Meter::new());
+    let found = enough.expect(rt, "hits").rules.len();
+    alike(rt, "five", found, 5);
+    let spent = again(alloc, &indexed, b"M.GZ", 4, &mut Meter::new());
+    alike(rt, "four", spent.err(), Some(CacheFault::Spent));
+}
+
 #[test]
 fn few_records(rt: HostRuntime) {
-    let alloc = rt.alloc();
-    let bytes = cache_of_texts(&rt, alloc);
-    let indexed = names_read_back(&rt, alloc, &bytes);
-    let enough = again(alloc, &indexed, b"M.GZ", 5, &mut Meter::new());
-    let found = enough.expect(&rt, "hits").rules.len();
-    alike(&rt, "five", found, 5);
-    let spent = again(alloc, &indexed, b"M.GZ", 4, &mut Meter::new());
-    alike(&rt, "four", spent.err(), Some(CacheFault::Spent));
+    is_spent(&rt, rt.alloc(), &cache_of_texts(&rt, rt.alloc()));
 }

@@ -1,10 +1,10 @@
 //! Lookups over the index of a database, which have the outcome of those by its lists.
 
-use super::{index_of, outcome_of, unprepared_index_of};
+use super::{database_of, index_of, outcome_of, unprepared_index_of};
 use crate::tests::checked::alike;
 use mime_base::{Database, Host};
 use mime_lookup::{IndexedDatabase, Order, look_up_indexed, look_up_plain};
-use mime_samples::texts::{EMPTY, Texts, merged};
+use mime_samples::texts::{EMPTY, Texts};
 use std::alloc::Global;
 use std::process::Abort;
 
@@ -182,48 +182,68 @@ fn are_alike(
     }
 }
 
-/// So they have over these texts for each name, with no content and with each.
-fn names_are_alike(rt: &impl Abort, alloc: Global, texts: Texts<'_>) {
-    let database = merged(alloc, &[texts]).expect(rt, "a database");
-    let index = index_of(rt, alloc, &database);
+/// So they have for each name, with no content and with one.
+fn names_are_alike(
+    rt: &impl Abort,
+    alloc: Global,
+    database: &Database,
+    index: &IndexedDatabase<'_>,
+) {
     for &name in &NAMES {
-        are_alike(rt, alloc, &database, &index, (name, None));
-        are_alike(rt, alloc, &database, &index, (name, Some(b"G")));
+        are_alike(rt, alloc, database, index, (name, None));
+        are_alike(rt, alloc, database, index, (name, Some(b"G")));
     }
+}
+
+/// So they have for each content.
+fn contents_are_alike(
+    rt: &impl Abort,
+    alloc: Global,
+    database: &Database,
+    index: &IndexedDatabase<'_>,
+) {
     for &content in &CONTENTS {
-        are_alike(rt, alloc, &database, &index, (b"none", Some(content)));
-        are_alike(rt, alloc, &database, &index, (b"x.doc", Some(content)));
+        are_alike(rt, alloc, database, index, (b"none", Some(content)));
+        are_alike(rt, alloc, database, index, (b"x.doc", Some(content)));
     }
+}
+
+/// So they have for each name and each content.
+fn all_are_alike(rt: &impl Abort, alloc: Global, database: &Database) {
+    let index = index_of(rt, alloc, database);
+    names_are_alike(rt, alloc, database, &index);
+    contents_are_alike(rt, alloc, database, &index);
 }
 
 #[test]
 fn names_and_contents(rt: HostRuntime) {
-    names_are_alike(&rt, rt.alloc(), TEXTS);
-    names_are_alike(&rt, rt.alloc(), ANY);
-    names_are_alike(&rt, rt.alloc(), GENERAL);
-    names_are_alike(&rt, rt.alloc(), EMPTY)
+    for texts in [TEXTS, ANY, GENERAL, EMPTY] {
+        all_are_alike(&rt, rt.alloc(), &database_of(&rt, rt.alloc(), &[texts]));
+    }
 }
 
 /// What is asked of an index has one outcome, whether its magic is prepared or not.
+fn unprepared_are_alike(rt: &impl Abort, alloc: Global, database: &Database) {
+    let index = unprepared_index_of(rt, alloc, database);
+    contents_are_alike(rt, alloc, database, &index);
+    are_alike(rt, alloc, database, &index, (b"x.doc", None));
+}
+
 #[test]
 fn magic_unprepared(rt: HostRuntime) {
-    let alloc = rt.alloc();
-    let database = merged(alloc, &[TEXTS]).expect(&rt, "a database");
-    let index = unprepared_index_of(&rt, alloc, &database);
-    for &content in &CONTENTS {
-        are_alike(&rt, alloc, &database, &index, (b"none", Some(content)));
-        are_alike(&rt, alloc, &database, &index, (b"x.doc", Some(content)));
-    }
-    are_alike(&rt, alloc, &database, &index, (b"x.doc", None));
+    unprepared_are_alike(&rt, rt.alloc(), &database_of(&rt, rt.alloc(), &[TEXTS]));
+}
+
+/// So have the longest name and one of a byte more.
+fn long_are_alike(rt: &impl Abort, alloc: Global, database: &Database) {
+    let index = index_of(rt, alloc, database);
+    are_alike(rt, alloc, database, &index, (&[b'~'; 4096], Some(b"hi")));
+    are_alike(rt, alloc, database, &index, (&[b'~'; 4097], Some(b"hi")));
 }
 
 #[test]
 fn long_name(rt: HostRuntime) {
-    let alloc = rt.alloc();
-    let database = merged(alloc, &[TEXTS]).expect(&rt, "a database");
-    let index = index_of(&rt, alloc, &database);
-    are_alike(&rt, alloc, &database, &index, (&[b'~'; 4096], Some(b"hi")));
-    are_alike(&rt, alloc, &database, &index, (&[b'~'; 4097], Some(b"hi")));
+    long_are_alike(&rt, rt.alloc(), &database_of(&rt, rt.alloc(), &[TEXTS]));
 }
 
 /// A byte at each place near the end of the noted ones, in contents that end before it, at it and after it.
@@ -244,13 +264,16 @@ fn places_are_alike(
     }
 }
 
+/// Two bytes at each place near that end.
+fn all_places_are_alike(rt: &impl Abort, alloc: Global, database: &Database) {
+    let index = index_of(rt, alloc, database);
+    for place in 278..291 {
+        places_are_alike(rt, alloc, database, &index, place, b'Q');
+        places_are_alike(rt, alloc, database, &index, place, b'R');
+    }
+}
+
 #[test]
 fn places(rt: HostRuntime) {
-    let alloc = rt.alloc();
-    let database = merged(alloc, &[TEXTS]).expect(&rt, "a database");
-    let index = index_of(&rt, alloc, &database);
-    for place in 278..291 {
-        places_are_alike(&rt, alloc, &database, &index, place, b'Q');
-        places_are_alike(&rt, alloc, &database, &index, place, b'R');
-    }
+    all_places_are_alike(&rt, rt.alloc(), &database_of(&rt, rt.alloc(), &[TEXTS]));
 }

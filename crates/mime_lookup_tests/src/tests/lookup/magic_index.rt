@@ -1,12 +1,11 @@
 //! Contents that are sniffed by the index of the magic of a cache, which gives what a lookup by the lists of the database gives.
 
-use super::outcome_of;
+use super::{cache_of, database_of, outcome_of};
 use crate::tests::checked::alike;
-use mime_base::{Counted, Database, Host, LARGEST_CACHE, Meter};
+use mime_base::{Counted, Database, Host, Meter};
 use mime_load::read_back;
 use mime_lookup::{MagicIndex, Order, look_up_plain};
-use mime_samples::texts::{EMPTY, Texts, merged};
-use mime_store::write_cache;
+use mime_samples::texts::{EMPTY, Texts};
 use std::alloc::Global;
 use std::process::Abort;
 
@@ -144,14 +143,24 @@ fn is_found(
     alike(rt, row.name, outcome_of(answer), Ok((row.kind, read)));
 }
 
+/// The index of the magic of a cache, boxed too.
+pub fn magic_of<'a>(rt: &impl Abort, alloc: Global, cache: &'a [u8]) -> Box<MagicIndex<'a>> {
+    let lists = read_back(alloc, &Counted::new(cache), &mut Meter::new()).expect(rt, "lists");
+    let index = MagicIndex::new(alloc, lists.magic).expect(rt, "an index");
+    Box::new(alloc, index).expect(rt, "room")
+}
+
+/// Each row is found.
+fn are_found(rt: &impl Abort, alloc: Global, database: &Database, cache: &[u8]) {
+    let index = magic_of(rt, alloc, cache);
+    for row in &ROWS {
+        is_found(rt, alloc, database, &index, row);
+    }
+}
+
 #[test]
 fn sections_of_a_cache(rt: HostRuntime) {
-    let alloc = rt.alloc();
-    let database = merged(alloc, &[TEXTS]).expect(&rt, "a database");
-    let bytes = write_cache(alloc, &database, LARGEST_CACHE).expect(&rt, "its cache");
-    let lists = read_back(alloc, &Counted::new(&bytes), &mut Meter::new()).expect(&rt, "lists");
-    let index = MagicIndex::new(alloc, lists.magic).expect(&rt, "an index");
-    for row in &ROWS {
-        is_found(&rt, alloc, &database, &index, row);
-    }
+    let database = database_of(&rt, rt.alloc(), &[TEXTS]);
+    let cache = cache_of(&rt, rt.alloc(), &database);
+    are_found(&rt, rt.alloc(), &database, &cache);
 }

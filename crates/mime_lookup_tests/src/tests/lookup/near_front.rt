@@ -1,10 +1,9 @@
 //! Values that stand around the last places that an index notes of a content, by the index and by the lists.
 
-use super::{index_of, outcome_of};
+use super::{index_of, of_magic, outcome_of};
 use crate::tests::checked::alike;
 use mime_base::{Database, Host};
 use mime_lookup::{Answer, IndexedDatabase, Order, Stopped, look_up_indexed, look_up_plain};
-use mime_samples::texts::{EMPTY, Texts, merged};
 use std::alloc::Global;
 use std::process::Abort;
 
@@ -130,28 +129,33 @@ fn has_kind(
     alike(rt, "by the index", kind_in(indexed), kind);
 }
 
+/// The value of a row at a place, alone and before others, has its type.
+fn has_kind_at(
+    rt: &impl Abort,
+    alloc: Global,
+    database: &Database,
+    index: &IndexedDatabase<'_>,
+    row: &Row,
+    place: usize,
+) {
+    for after in [&b""[..], b"xx"] {
+        let content = content_of(rt, alloc, row, place, after);
+        has_kind(rt, alloc, database, index, &content, kind_at(row, place));
+    }
+}
+
+/// So it has at each place.
+fn has_kinds(rt: &impl Abort, alloc: Global, database: &Database, row: &Row) {
+    let index = index_of(rt, alloc, database);
+    for &place in &PLACES {
+        has_kind_at(rt, alloc, database, &index, row, place);
+    }
+}
+
 #[test]
 fn values_near_the_end_of_the_front(rt: HostRuntime) {
-    let alloc = rt.alloc();
     for row in &ROWS {
-        let texts = Texts {
-            magic: row.magic,
-            ..EMPTY
-        };
-        let database = merged(alloc, &[texts]).expect(&rt, "a database");
-        let index = index_of(&rt, alloc, &database);
-        for &place in &PLACES {
-            let last = content_of(&rt, alloc, row, place, b"");
-            has_kind(&rt, alloc, &database, &index, &last, kind_at(row, place));
-            let before_others = content_of(&rt, alloc, row, place, b"xx");
-            has_kind(
-                &rt,
-                alloc,
-                &database,
-                &index,
-                &before_others,
-                kind_at(row, place),
-            );
-        }
+        let database = of_magic(&rt, rt.alloc(), row.magic);
+        has_kinds(&rt, rt.alloc(), &database, row);
     }
 }

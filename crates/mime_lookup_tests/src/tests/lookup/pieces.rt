@@ -1,9 +1,10 @@
 //! A content that comes in pieces, with an interruption before each of its reads in turn, or with a read that fails.
 
-use super::{Asked, Outcome, are_answered_alike, is_outcome, look_up_cache, look_up_lists};
+use super::{
+    Asked, Outcome, are_answered_alike, cache_of, is_outcome, look_up_cache, look_up_lists,
+};
 use mime_base::Database;
 use mime_lookup::{Cause, Script, Step};
-use mime_store::write_cache;
 use std::alloc::Global;
 use std::process::Abort;
 
@@ -81,7 +82,7 @@ pub fn is_refused_by_failures(
     asked: &Asked<'_>,
     content: &[u8],
 ) {
-    let cache = write_cache(alloc, database, usize::MAX).expect(rt, "its cache");
+    let cache = cache_of(rt, alloc, database);
     let size = content.len() / MOST + 1;
     let pieces = pieces_of(rt, alloc, content, size);
     for at in 0..=pieces.len() {

@@ -1,13 +1,14 @@
 //! What is read of contents, through readers that follow a script and tell their failures, and
 //! through the same readers where they tell nothing.
 
-use super::{Asked, Outcome, are_answered_alike, is_outcome, look_up_cache, look_up_lists};
+use super::{
+    Asked, Outcome, are_answered_alike, cache_of, is_answered_from_texts, look_up_cache,
+    look_up_lists, of_globs,
+};
 use crate::tests::checked::alike;
-use mime_base::Host;
+use mime_base::{Database, Host};
 use mime_lookup::{Cause, Order, Script, Step, Untold};
-use mime_samples::texts::{EMPTY, Texts, of_rules};
-use mime_store::write_cache;
-use mime_tool::{AnswerFault, answer};
+use mime_samples::texts::{EMPTY, Texts};
 use std::alloc::Global;
 use std::process::Abort;
 
@@ -131,7 +132,7 @@ static ROWS: [Row; 12] = [
 
 /// A row is answered by its outcome, whether its content tells its failures or not.
 fn is_answered(rt: &impl Abort, alloc: Global, row: &Row) {
-    let database = of_rules(alloc, row.globs2).expect(rt, "a database");
+    let database = of_globs(rt, alloc, row.globs2);
     let asked = Asked {
         name: row.name,
         file: row.file,
@@ -143,34 +144,19 @@ fn is_answered(rt: &impl Abort, alloc: Global, row: &Row) {
     are_answered_alike(rt, alloc, &database, &asked, (told, told));
     let untold = (told.map(Untold), told.map(Untold));
     are_answered_alike(rt, alloc, &database, &asked, untold);
-    is_answered_from_texts(rt, alloc, row, told)
+    is_answered_from_globs(rt, alloc, row.globs2, &asked, told)
 }
 
-/// A row is answered by its outcome from the text of one directory in one run.
-fn is_answered_from_texts(rt: &impl Abort, alloc: Global, row: &Row, told: Option<Script<'_>>) {
-    let dirs = [Texts {
-        globs2: row.globs2,
-        ..EMPTY
-    }];
-    let mut content = told;
-    match answer(
-        alloc,
-        &dirs,
-        row.file,
-        &mut content,
-        Host::Little,
-        row.order,
-    ) {
-        Err(AnswerFault::Lookup(stopped)) => {
-            let found = Err((stopped.cause, stopped.read));
-            is_outcome(rt, row.name, "from texts", found, row.outcome);
-        }
-        found => {
-            let found = found.expect(rt, "an answer");
-            let found = Ok((found.kind.as_slice(), found.read));
-            is_outcome(rt, row.name, "from texts", found, row.outcome);
-        }
-    }
+/// What is asked has its outcome from the text of one directory in one run.
+fn is_answered_from_globs(
+    rt: &impl Abort,
+    alloc: Global,
+    globs2: &[u8],
+    asked: &Asked<'_>,
+    told: Option<Script<'_>>,
+) {
+    let texts = Texts { globs2, ..EMPTY };
+    is_answered_from_texts(rt, alloc, &[texts], asked, told)
 }
 
 #[test]
@@ -186,16 +172,24 @@ fn is_at_its_end(rt: &impl Abort, name: &str, found: Outcome<'_>, rest: Option<&
     alike(rt, name, rest, Some(b"".as_slice()));
 }
 
+/// So it has by the lists of a database.
+fn is_read_by_lists(rt: &impl Abort, alloc: Global, database: &Database) {
+    let (mut content, host, order) = (Some(&b"hi\n"[..]), Host::Little, Order::GlobsFirst);
+    let found = look_up_lists(alloc, database, b"a", &mut content, host, order);
+    is_at_its_end(rt, "by the lists", found, content);
+}
+
+/// So it has by a cache.
+fn is_read_by_cache(rt: &impl Abort, alloc: Global, cache: &[u8]) {
+    let (mut content, host, order) = (Some(&b"hi\n"[..]), Host::Little, Order::GlobsFirst);
+    let found = look_up_cache(alloc, cache, b"a", &mut content, host, order);
+    is_at_its_end(rt, "by the cache", found, content);
+}
+
 #[test]
 fn a_slice(rt: HostRuntime) {
     let alloc = rt.alloc();
-    let (host, order) = (Host::Little, Order::GlobsFirst);
-    let database = of_rules(alloc, b"").expect(&rt, "a database");
-    let mut content = Some(&b"hi\n"[..]);
-    let found = look_up_lists(alloc, &database, b"a", &mut content, host, order);
-    is_at_its_end(&rt, "by the lists", found, content);
-    let cache = write_cache(alloc, &database, usize::MAX).expect(&rt, "its cache");
-    let mut content = Some(&b"hi\n"[..]);
-    let found = look_up_cache(alloc, &cache, b"a", &mut content, host, order);
-    is_at_its_end(&rt, "by the cache", found, content);
+    let database = of_globs(&rt, alloc, b"");
+    is_read_by_lists(&rt, alloc, &database);
+    is_read_by_cache(&rt, alloc, &cache_of(&rt, alloc, &database));
 }

@@ -1,12 +1,10 @@
 //! Contents that are shorter than what any line of magic needs, as long, and longer, by the index and by the lists.
 
-use super::{index_of, outcome_of};
+use super::magic_index::magic_of;
+use super::{cache_of, index_of, of_magic, outcome_of};
 use crate::tests::checked::alike;
-use mime_base::{Counted, Host, LARGEST_CACHE, Meter};
-use mime_load::read_back;
+use mime_base::{Database, Host, Meter};
 use mime_lookup::{IndexedDatabase, MagicIndex, Order, look_up_indexed, look_up_plain};
-use mime_samples::texts::{EMPTY, Texts, merged};
-use mime_store::write_cache;
 use std::alloc::Global;
 use std::process::Abort;
 
@@ -94,37 +92,48 @@ fn kind_of(least: usize, length: usize) -> &'static [u8] {
     }
 }
 
-/// A front has this type by the lists, by the index of the database and by that of its cache.
-fn fronts_have(rt: &impl Abort, alloc: Global, row: &Row) {
-    let database = merged(
+/// A front has its type by the lists and by the index of the database, and a section by the index of the cache.
+fn front_has(
+    rt: &impl Abort,
+    alloc: Global,
+    database: &Database,
+    (index, of_cache): (&IndexedDatabase<'_>, &MagicIndex<'_>),
+    row: &Row,
+    length: usize,
+) {
+    let (front, host) = (CONTENT.get(..length).unwrap_or(CONTENT), Host::Little);
+    let wanted = Ok((kind_of(row.least, length), length as u64));
+    let mut content = Some(front);
+    let plain = look_up_plain(
         alloc,
-        &[Texts {
-            magic: row.magic,
-            ..EMPTY
-        }],
-    )
-    .expect(rt, "a database");
-    let index = index_of(rt, alloc, &database);
-    let bytes = write_cache(alloc, &database, LARGEST_CACHE).expect(rt, "its cache");
-    let lists = read_back(alloc, &Counted::new(&bytes), &mut Meter::new()).expect(rt, "lists");
-    let of_cache = MagicIndex::new(alloc, lists.magic).expect(rt, "an index");
-    let (host, order) = (Host::Little, Order::ContentOnly);
+        database,
+        b"q",
+        &mut content,
+        host,
+        Order::ContentOnly,
+    );
+    alike(rt, row.name, outcome_of(plain), wanted);
+    let mut content = Some(front);
+    let indexed = look_up_indexed(alloc, index, b"q", &mut content, host, Order::ContentOnly);
+    alike(rt, row.name, outcome_of(indexed), wanted);
+    let section = of_cache.first_section(front, host, &mut Meter::new());
+    alike(rt, row.name, section.is_some(), length >= row.least);
+}
+
+/// Each front has its type.
+fn fronts_have(rt: &impl Abort, alloc: Global, database: &Database, cache: &[u8], row: &Row) {
+    let index = index_of(rt, alloc, database);
+    let of_cache = magic_of(rt, alloc, cache);
     for length in 0..CONTENT.len() + 1 {
-        let front = &CONTENT[..length];
-        let wanted = Ok((kind_of(row.least, length), length as u64));
-        let (mut of_lists, mut of_index) = (Some(front), Some(front));
-        let plain = look_up_plain(alloc, &database, b"q", &mut of_lists, host, order);
-        alike(rt, row.name, outcome_of(plain), wanted);
-        let indexed = look_up_indexed(alloc, &index, b"q", &mut of_index, host, order);
-        alike(rt, row.name, outcome_of(indexed), wanted);
-        let section = of_cache.first_section(front, host, &mut Meter::new());
-        alike(rt, row.name, section.is_some(), length >= row.least);
+        front_has(rt, alloc, database, (&index, &of_cache), row, length);
     }
 }
 
 #[test]
 fn contents_of_each_length(rt: HostRuntime) {
     for row in &ROWS {
-        fronts_have(&rt, rt.alloc(), row);
+        let database = of_magic(&rt, rt.alloc(), row.magic);
+        let cache = cache_of(&rt, rt.alloc(), &database);
+        fronts_have(&rt, rt.alloc(), &database, &cache, row);
     }
 }

@@ -1,12 +1,12 @@
 //! Contents over the index of a database, which are sniffed as by its lists.
 
-use super::{index_of, outcome_of};
+use super::{database_of, index_of, of_magic, outcome_of};
 use crate::tests::checked::alike;
 use mime_base::{Database, Host};
 use mime_lookup::{
     DatabaseMagic, IndexedDatabase, Order, look_up_by_magic, look_up_indexed, look_up_plain,
 };
-use mime_samples::texts::{EMPTY, Texts, merged};
+use mime_samples::texts::{EMPTY, Texts};
 use std::alloc::Global;
 use std::process::Abort;
 
@@ -79,53 +79,57 @@ static HEADED: [&[u8]; 17] = [
     b"..lmn",
 ];
 
-#[test]
-fn heads(rt: HostRuntime) {
-    let alloc = rt.alloc();
-    let texts = Texts {
-        magic: HEADS,
-        ..EMPTY
-    };
-    let database = merged(alloc, &[texts]).expect(&rt, "a database");
-    let index = index_of(&rt, alloc, &database);
+/// So has each of them.
+fn heads_are_alike(rt: &impl Abort, alloc: Global, database: &Database) {
+    let index = index_of(rt, alloc, database);
     for &content in &HEADED {
-        changes_are_alike(&rt, alloc, &database, &index, content);
+        changes_are_alike(rt, alloc, database, &index, content);
     }
 }
 
-/// A name and a content have one outcome by the lists and by the magic alone.
+#[test]
+fn heads(rt: HostRuntime) {
+    heads_are_alike(&rt, rt.alloc(), &of_magic(&rt, rt.alloc(), HEADS));
+}
+
+/// A name and a content have one outcome by the lists and by the magic alone, in each order.
 fn is_alike_by_magic(
     rt: &impl Abort,
     alloc: Global,
     database: &Database,
     magic: &DatabaseMagic<'_>,
     content: &[u8],
-    order: Order,
 ) {
     let (host, name) = (Host::Little, b"x.a");
-    let (mut of_lists, mut of_magic) = (Some(content), Some(content));
-    let by_lists = outcome_of(look_up_plain(alloc, database, name, &mut of_lists, host, order));
-    let by_magic = outcome_of(look_up_by_magic(alloc, magic, name, &mut of_magic, host, order));
-    alike(rt, "by the magic", by_magic, by_lists);
+    for order in [Order::ContentOnly, Order::GlobsFirst, Order::AllGlobs] {
+        let (mut of_lists, mut of_magic) = (Some(content), Some(content));
+        let by_lists = look_up_plain(alloc, database, name, &mut of_lists, host, order);
+        let by_magic = look_up_by_magic(alloc, magic, name, &mut of_magic, host, order);
+        let (by_lists, by_magic) = (outcome_of(by_lists), outcome_of(by_magic));
+        alike(rt, "by the magic", by_magic, by_lists);
+    }
 }
+
+/// So has each content.
+fn are_alike_by_magic(rt: &impl Abort, alloc: Global, database: &Database) {
+    let magic = DatabaseMagic::new(alloc, database).expect(rt, "its magic");
+    for &content in &HEADED {
+        is_alike_by_magic(rt, alloc, database, &magic, content);
+    }
+}
+
+/// The same lines, and names of two types.
+const NAMED: Texts<'static> = Texts {
+    globs2: b"50:t/abce:*.a\n50:t/late:*.a\n",
+    aliases: b"t/abc t/other\n",
+    subclasses: b"t/second t/late\n",
+    magic: HEADS,
+    ..EMPTY
+};
 
 #[test]
 fn magic_alone(rt: HostRuntime) {
-    let alloc = rt.alloc();
-    let texts = Texts {
-        globs2: b"50:t/abce:*.a\n50:t/late:*.a\n",
-        aliases: b"t/abc t/other\n",
-        subclasses: b"t/second t/late\n",
-        magic: HEADS,
-        ..EMPTY
-    };
-    let database = merged(alloc, &[texts]).expect(&rt, "a database");
-    let magic = DatabaseMagic::new(alloc, &database).expect(&rt, "its magic");
-    for &content in &HEADED {
-        is_alike_by_magic(&rt, alloc, &database, &magic, content, Order::ContentOnly);
-        is_alike_by_magic(&rt, alloc, &database, &magic, content, Order::GlobsFirst);
-        is_alike_by_magic(&rt, alloc, &database, &magic, content, Order::AllGlobs);
-    }
+    are_alike_by_magic(&rt, rt.alloc(), &database_of(&rt, rt.alloc(), &[NAMED]));
 }
 
 /// Ranges of which the last place of a later pair is the last that is noted, one more, and far beyond; each value has capitals
@@ -155,26 +159,38 @@ fn place_is_alike(
     is_alike(rt, alloc, database, index, &content[..end]);
 }
 
+/// A value at places near the last that is noted, and at the first.
+fn places_are_alike(
+    rt: &impl Abort,
+    alloc: Global,
+    database: &Database,
+    index: &IndexedDatabase<'_>,
+    value: &[u8],
+) {
+    for place in 264..326 {
+        place_is_alike(rt, alloc, database, index, value, place);
+    }
+    for place in 0..6 {
+        place_is_alike(rt, alloc, database, index, value, place);
+    }
+}
+
+/// What each of the ranges seeks, and what none does.
+static RANGED: [&[u8]; 9] = [
+    b"abAB", b"cdCD", b"efEFG", b"ghij", b"KL", b"MNO", b"efEF", b"abAb", b"KKL",
+];
+
+/// Each of them at these places.
+fn ranges_are_alike(rt: &impl Abort, alloc: Global, database: &Database) {
+    let index = index_of(rt, alloc, database);
+    for &value in &RANGED {
+        places_are_alike(rt, alloc, database, &index, value);
+    }
+}
+
 #[test]
 fn ranges(rt: HostRuntime) {
-    let alloc = rt.alloc();
-    let texts = Texts {
-        magic: RANGES,
-        ..EMPTY
-    };
-    let database = merged(alloc, &[texts]).expect(&rt, "a database");
-    let index = index_of(&rt, alloc, &database);
-    let values: [&[u8]; 9] = [
-        b"abAB", b"cdCD", b"efEFG", b"ghij", b"KL", b"MNO", b"efEF", b"abAb", b"KKL",
-    ];
-    for value in values {
-        for place in 264..326 {
-            place_is_alike(&rt, alloc, &database, &index, value, place);
-        }
-        for place in 0..6 {
-            place_is_alike(&rt, alloc, &database, &index, value, place);
-        }
-    }
+    ranges_are_alike(&rt, rt.alloc(), &of_magic(&rt, rt.alloc(), RANGES));
 }
 
 /// More places than there are tables, each with a line of its own, and one line of all of them before and after.
@@ -194,21 +210,20 @@ fn many_places(rt: &impl Abort, alloc: Global) -> Vec<u8> {
     magic
 }
 
+/// Values at places that have a table and at places that have none.
+fn tables_are_alike(rt: &impl Abort, alloc: Global, database: &Database) {
+    let index = index_of(rt, alloc, database);
+    for place in [0, 1, 254, 255, 256, 257, 298, 299] {
+        place_is_alike(rt, alloc, database, &index, b"Z", place);
+        place_is_alike(rt, alloc, database, &index, b"ZZ", place);
+        place_is_alike(rt, alloc, database, &index, b"Y", place);
+    }
+}
+
 #[test]
 fn places(rt: HostRuntime) {
-    let alloc = rt.alloc();
-    let magic = many_places(&rt, alloc);
-    let texts = Texts {
-        magic: &magic,
-        ..EMPTY
-    };
-    let database = merged(alloc, &[texts]).expect(&rt, "a database");
-    let index = index_of(&rt, alloc, &database);
-    for place in [0, 1, 254, 255, 256, 257, 298, 299] {
-        place_is_alike(&rt, alloc, &database, &index, b"Z", place);
-        place_is_alike(&rt, alloc, &database, &index, b"ZZ", place);
-        place_is_alike(&rt, alloc, &database, &index, b"Y", place);
-    }
+    let magic = many_places(&rt, rt.alloc());
+    tables_are_alike(&rt, rt.alloc(), &of_magic(&rt, rt.alloc(), &magic));
 }
 
 /// Many lines of one place and byte, of which the one that holds is late.
@@ -229,19 +244,18 @@ fn many_lines(rt: &impl Abort, alloc: Global) -> Vec<u8> {
     magic
 }
 
+/// The lines' values, whole and cut.
+fn chains_are_alike(rt: &impl Abort, alloc: Global, database: &Database) {
+    let index = index_of(rt, alloc, database);
+    for second in 0..255 {
+        is_alike(rt, alloc, database, &index, &[b'A', second]);
+        is_alike(rt, alloc, database, &index, &[b'A', second, b'B']);
+    }
+    is_alike(rt, alloc, database, &index, b"A.C");
+}
+
 #[test]
 fn chains(rt: HostRuntime) {
-    let alloc = rt.alloc();
-    let magic = many_lines(&rt, alloc);
-    let texts = Texts {
-        magic: &magic,
-        ..EMPTY
-    };
-    let database = merged(alloc, &[texts]).expect(&rt, "a database");
-    let index = index_of(&rt, alloc, &database);
-    for second in 0..255 {
-        is_alike(&rt, alloc, &database, &index, &[b'A', second]);
-        is_alike(&rt, alloc, &database, &index, &[b'A', second, b'B']);
-    }
-    is_alike(&rt, alloc, &database, &index, b"A.C");
+    let magic = many_lines(&rt, rt.alloc());
+    chains_are_alike(&rt, rt.alloc(), &of_magic(&rt, rt.alloc(), &magic));
 }

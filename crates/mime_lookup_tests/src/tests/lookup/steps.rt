@@ -1,11 +1,12 @@
 //! The nodes that a name counts of an index, counted by hand: a clause bounds them from above alone.
 
-use super::unprepared_index_of;
+use super::{database_of, unprepared_index_of};
 use crate::tests::checked::alike;
-use mime_base::Host;
-use mime_lookup::{Cause, IndexedDatabase, Order, look_up_indexed};
-use mime_samples::texts::{EMPTY, Texts, merged};
+use mime_base::{Database, Host};
+use mime_lookup::{Cause, Order, look_up_indexed};
+use mime_samples::texts::{EMPTY, Texts};
 use std::alloc::Global;
+use std::process::Abort;
 
 /// An ending, whose text is two nodes; a text that ends at its second node, and a general pattern.
 const FEW: Texts<'static> = Texts {
@@ -42,15 +43,17 @@ static COUNTED: [(&str, &[u8], Order, u64); 8] = [
     ("the content alone", b"makefile", Order::ContentOnly, 0),
 ];
 
-/// The nodes that a name counts, or why there is no answer.
+/// The nodes that a name counts by an index of a database, or why there is no answer.
 fn nodes_of(
+    rt: &impl Abort,
     alloc: Global,
-    index: &IndexedDatabase<'_>,
+    database: &Database,
     name: &[u8],
     order: Order,
 ) -> Result<u64, Cause> {
+    let index = unprepared_index_of(rt, alloc, database);
     let mut none: Option<&[u8]> = None;
-    match look_up_indexed(alloc, index, name, &mut none, Host::Little, order) {
+    match look_up_indexed(alloc, &index, name, &mut none, Host::Little, order) {
         Ok(answer) => Ok(answer.meter.nodes),
         Err(stopped) => Err(stopped.cause),
     }
@@ -58,19 +61,16 @@ fn nodes_of(
 
 #[test]
 fn steps_of_a_name(rt: HostRuntime) {
-    let alloc = rt.alloc();
-    let database = merged(alloc, &[FEW]).expect(&rt, "a database");
-    let index = unprepared_index_of(&rt, alloc, &database);
+    let database = database_of(&rt, rt.alloc(), &[FEW]);
     for &(what, name, order, nodes) in &COUNTED {
-        alike(&rt, what, nodes_of(alloc, &index, name, order), Ok(nodes));
+        let found = nodes_of(&rt, rt.alloc(), &database, name, order);
+        alike(&rt, what, found, Ok(nodes));
     }
 }
 
 #[test]
 fn general_patterns_are_no_steps(rt: HostRuntime) {
-    let alloc = rt.alloc();
-    let database = merged(alloc, &[GENERAL]).expect(&rt, "a database");
-    let index = unprepared_index_of(&rt, alloc, &database);
-    let nodes = nodes_of(alloc, &index, b"makefile", Order::GlobsFirst);
+    let database = database_of(&rt, rt.alloc(), &[GENERAL]);
+    let nodes = nodes_of(&rt, rt.alloc(), &database, b"makefile", Order::GlobsFirst);
     alike(&rt, "by the lists", nodes, Ok(0));
 }
