@@ -1,14 +1,13 @@
 -- The bytes that are compared for the rules of a name's endings, for those of its front, and for both.
-use Rattle.std.proofs.Common.{◌≡◌, ◌⊎◌, inl, inr, ℕ, ◌+◌, ◌*◌, ◌<◌, ◌≤◌, Bool, not, ◌&&◌, List, [], length, get_or, subst, arith}
+use Rattle.std.proofs.Common.{◌≡◌, ◌⊎◌, inl, inr, ℕ, ◌+◌, ◌*◌, ◌<◌, ◌≤◌, Bool, not, List, [], length, get_or, subst, arith}
 use Rattle.std.specs.List.{Contains, filter}
 use Rattle.std.proofs.lemmas.List.{get_or_default}
 use Rattle.std.proofs.Math.Nat.{mul-le-mul_right}
 use Rattle.mime_base.specs.declared.database.rule.GlobRule.{GlobRule}
 use Rattle.mime_names.specs.Index.{IsIndex, rules_of_index}
 use Rattle.mime_names.specs.Keys.{Fronts, IsEndKey}
-use Rattle.mime_names.specs.Near.{longest, near_bytes, near_rule, near_rules, near_texts, rule_bytes, text_bytes}
+use Rattle.mime_names.specs.Near.{longest, near_bytes, near_others, near_rules, near_texts, rule_bytes, text_bytes}
 use Rattle.mime_names.specs.Places.{AreSortedPlaces, ComparesKeys, ComparesPlaces, is_text_at}
-use Rattle.mime_names.specs.Rules.{is_text_rule}
 use Rattle.mime_names.specs.Tree.{spelled}
 use Rattle.mime_names.specs.declared.indexed_rule.IndexedRule.{IndexedRule}
 use Rattle.mime_names.specs.declared.keys.KeyTable.{KeyTable}
@@ -39,6 +38,24 @@ compares-no-keys is_text Passes keys text other old new same = record {
   bytes = omega (arith, same);
 }
 
+module _ (name : List ℕ) (rules : List GlobRule) where
+  -- the bytes of a rule that is no text
+  abbrev of_others : ℕ
+  of_others = rule_bytes (length name) (longest rules)
+
+  -- texts near a name, and then the others, cost no more than all rules near it allow
+  pub kept-bytes : (old mid new : ℕ) → mid ≤ old + text_bytes (length name) (near_texts name rules) →
+      new ≤ mid + near_others name rules * of_others → new ≤ old + near_bytes (length name) (longest rules) (near_rules name rules)
+  kept-bytes old mid new texts others =
+      compared-le (length name) of_others (length name + 1 + near_texts name rules) (near_others name rules) (near_texts name rules)
+      (near_others name rules) (near_rules name rules) old new (name-le (length name) (longest rules)) (omega arith) (omega arith)
+      (near-both name rules) (omega (arith, texts, others))
+
+  -- so do the texts alone
+  pub texts-bytes : (old new : ℕ) → new ≤ old + text_bytes (length name) (near_texts name rules) →
+      new ≤ old + near_bytes (length name) (longest rules) (near_rules name rules)
+  texts-bytes old new texts = kept-bytes old new new texts (omega arith)
+
 module _ (patterns : List ℕ) (rules : List IndexedRule) (table : KeyTable) {general : ℕ} (is : IsIndex patterns rules table general)
     (name : List ℕ) (all : List GlobRule) (view : rules_of_index patterns rules ≡ all) where
   -- the keys of the rules
@@ -57,10 +74,6 @@ module _ (patterns : List ℕ) (rules : List IndexedRule) (table : KeyTable) {ge
   abbrev each : ℕ
   each = rule_bytes (length name) (longest all)
 
-  -- how many others are near the name
-  abbrev near_others : ℕ
-  near_others = length (filter (λ rule. not (is_text_rule rule) && near_rule name rule) all)
-
   -- the bytes of rules that are compared
   abbrev Bytes : List ℕ → ℕ → ℕ → ℕ → Type 0
   Bytes asked other old new =
@@ -72,7 +85,7 @@ module _ (patterns : List ℕ) (rules : List IndexedRule) (table : KeyTable) {ge
 
   module _ (old new : ℕ) where
     -- those of endings are texts
-    pub ends-bytes : ComparesKeys is_text (IsEndKey table.tree (spelled name)) keys (length name) own_each old new →
+    ends-bytes : ComparesKeys is_text (IsEndKey table.tree (spelled name)) keys (length name) own_each old new →
         new ≤ old + text_bytes (length name) (near_texts name all)
     ends-bytes compared =
         let texts = texts-asked patterns rules table is name all view compared.asked compared.once asks in
@@ -84,8 +97,14 @@ module _ (patterns : List ℕ) (rules : List IndexedRule) (table : KeyTable) {ge
             (p < length keys) × (IsEndKey table.tree (spelled name) (get_or keys p 0) ⊎ Fronts name (get_or keys p 0))
         asks p has = (compared.below p has, inl (compared.only p has))
 
+    -- so are those at the places that endings lead to
+    pub leading-bytes : (places : List ℕ) → AreSortedPlaces (IsEndKey table.tree (spelled name)) keys places →
+        ComparesPlaces is_text places (length name) own_each old new → new ≤ old + text_bytes (length name) (near_texts name all)
+    leading-bytes places sorted compared =
+        ends-bytes (compares-keys is_text (IsEndKey table.tree (spelled name)) keys places (length name) own_each old new sorted compared)
+
     -- those of the front are near
-    pub fronts-bytes : ComparesKeys is_text (Fronts name) keys (length name) own_each old new → new ≤ old + near_others * each
+    pub fronts-bytes : ComparesKeys is_text (Fronts name) keys (length name) own_each old new → new ≤ old + near_others name all * each
     fronts-bytes compared =
         let given = bytes-given compared.asked old new compared.bytes in
         let rest = others-asked patterns rules table is name all view compared.asked compared.once asks in
@@ -97,26 +116,11 @@ module _ (patterns : List ℕ) (rules : List IndexedRule) (table : KeyTable) {ge
             (p < length keys) × (IsEndKey table.tree (spelled name) (get_or keys p 0) ⊎ Fronts name (get_or keys p 0))
         asks p has = (compared.below p has, inr (compared.only p has))
 
-    -- those of endings cost no more than all near the name allow
-    pub texts-bytes : new ≤ old + text_bytes (length name) (near_texts name all) →
-        new ≤ old + near_bytes (length name) (longest all) (near_rules name all)
-    texts-bytes texts =
-        compared-le (length name) each (length name + 1 + near_texts name all) 0 (near_texts name all) near_others (near_rules name all) old new
-        (name-le (length name) (longest all)) (omega arith) (omega arith) (near-both name all) (omega (arith, texts))
-
-    -- nor do those of both
-    pub kept-bytes : (mid next : ℕ) → mid ≤ old + text_bytes (length name) (near_texts name all) → next ≤ mid →
-        new ≤ next + near_others * each → new ≤ old + near_bytes (length name) (longest all) (near_rules name all)
-    kept-bytes mid next texts same fronts =
-        compared-le (length name) each (length name + 1 + near_texts name all) near_others (near_texts name all) near_others
-        (near_rules name all) old new (name-le (length name) (longest all)) (omega arith) (omega arith) (near-both name all)
-        (omega (arith, texts, same, fronts))
-
-    -- nor those of all places for whose keys a name asks
+    -- those of all places for whose keys a name asks
     pub every-bytes : ComparesKeys is_text (λ key. IsEndKey table.tree (spelled name) key ⊎ Fronts name key) keys (length name) own_each old new →
         new ≤ old + near_bytes (length name) (longest all) (near_rules name all)
     every-bytes compared =
-        compared-le (length name) each _ _ (near_texts name all) near_others (near_rules name all) old new
+        compared-le (length name) each _ _ (near_texts name all) (near_others name all) (near_rules name all) old new
         (name-le (length name) (longest all))
         (texts-asked patterns rules table is name all view compared.asked compared.once asks)
         (others-asked patterns rules table is name all view compared.asked compared.once asks)

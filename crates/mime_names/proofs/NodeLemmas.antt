@@ -8,15 +8,15 @@ use Rattle.mime_base.specs.Kept.{hits, of_greatest, rank_of_rule}
 use Rattle.mime_base.specs.declared.database.rule.GlobRule.{GlobRule}
 use Rattle.mime_names.specs.Index.{IsIndex, rules_of_index}
 use Rattle.mime_names.specs.Keys.{Fronts, IsEndKey}
-use Rattle.mime_names.specs.Near.{near_nodes, near_rule, near_rules, near_texts}
-use Rattle.mime_names.specs.Places.{AreNear, AreSortedPlaces, CountsPlaces}
+use Rattle.mime_names.specs.Near.{near_nodes, near_others, near_rule, near_rules, near_texts}
+use Rattle.mime_names.specs.Places.{CountsPlaces}
 use Rattle.mime_names.specs.Rules.{every, hits_of, is_text_rule, others, plain, texts}
 use Rattle.mime_names.specs.Tree.{spelled}
 use Rattle.mime_names.specs.declared.indexed_rule.IndexedRule.{IndexedRule}
 use Rattle.mime_names.specs.declared.keys.KeyTable.{KeyTable}
 use Rattle.mime_names.proofs.CountLemmas.{count-fronts, count-places}
 use Rattle.mime_names.proofs.KeptLemmas.{filter-both, filter-map, kept-none, texts-plain}
-use Rattle.mime_names.proofs.TableLemmas.{ends-high, fronts-low, near-texts, other-at, text-at}
+use Rattle.mime_names.proofs.TableLemmas.{ends-high, fronts-low, other-at, text-at}
 
 -- values that pass are as many as what has them
 length-filter_map : {X Y : Type 0} (value : X → Y) (p : Y → Bool) (xs : List X) →
@@ -25,7 +25,7 @@ length-filter_map value p xs = ap length (filter-map value p xs) ∙ length-map 
 
 -- of the rules near a name the texts and all others
 pub near-both : (name : List ℕ) (rules : List GlobRule) →
-    near_texts name rules + length (filter (λ rule. not (is_text_rule rule) && near_rule name rule) rules) ≡ near_rules name rules
+    near_texts name rules + near_others name rules ≡ near_rules name rules
 near-both name rules =
     let near = filter (near_rule name) rules in
     let first = ap length (filter-both is_text_rule (near_rule name) rules) in
@@ -58,30 +58,16 @@ module _ (patterns : List ℕ) (rules : List IndexedRule) (table : KeyTable) {ge
       )) in
       omega (arith, counted.steps, places, passing (λ rule. is_text_rule rule && near_rule name rule))
 
-  -- these are no more than all rules allow
-  pub texts-near : (old new : ℕ) → CountsPlaces Ends keys old (2 * length name + 3) new →
-      new ≤ old + near_nodes (length name) (near_rules name all)
-  texts-near old new counted = omega (arith, texts-nodes old new counted, near-both name all)
-
-  -- where then those of the front are
-  pub fronts-near : (old mid next new : ℕ) → CountsPlaces Ends keys old (2 * length name + 3) mid → next ≡ mid →
-      CountsPlaces (Fronts name) keys next 2 new → new ≤ old + near_nodes (length name) (near_rules name all)
-  fronts-near old mid next new before none counted =
+  -- where those of the front are
+  pub fronts-nodes : (old new : ℕ) → CountsPlaces (Fronts name) keys old 2 new → new ≤ old + 2 + near_others name all
+  fronts-nodes old new counted =
       let places =
       count-fronts table patterns rules is.keyed is.own name (others patterns) counted.places counted.below counted.once
       (λ p rule within here has. (
         other-at table patterns rules is.keyed is.own name p rule within here (fronts-low name _ (counted.only p has)),
         inr (counted.only p has),
       )) (λ p has. fronts-low name _ (counted.only p has)) in
-      omega (
-        arith,
-        texts-nodes old mid before,
-        none,
-        counted.steps,
-        places,
-        near-both name all,
-        passing (λ rule. not (is_text_rule rule) && near_rule name rule),
-      )
+      omega (arith, counted.steps, places, passing (λ rule. not (is_text_rule rule) && near_rule name rule))
 
   -- where those of both are
   pub every-near : (old new : ℕ) → CountsPlaces (λ key. Ends key ⊎ Fronts name key) keys old (2 * length name + 5) new →
@@ -92,15 +78,12 @@ module _ (patterns : List ℕ) (rules : List IndexedRule) (table : KeyTable) {ge
       (λ p rule within here has. (refl, counted.only p has)) in
       omega (arith, counted.steps, places, passing (near_rule name))
 
-  -- no text matches where none is kept of those at the places of texts
-  pub texts-none : (places : List ℕ) → AreSortedPlaces Ends keys places → (kinds : List (Bor (List ℕ))) →
-      (AreNear patterns (texts patterns) rules name places →
-      kinds ≡ map (λ rule. rule.kind) (of_greatest (λ rule. rank_of_rule (plain patterns rule))
-      (hits_of patterns (texts patterns) rules name))) →
+  -- no text matches where none is kept
+  pub texts-none : (kinds : List (Bor (List ℕ))) → kinds ≡ map (λ rule. rule.kind)
+      (of_greatest (λ rule. rank_of_rule (plain patterns rule)) (hits_of patterns (texts patterns) rules name)) →
       length kinds ≡ 0 → 0 < length (filter is_text_rule (hits all name)) → ⊥
-  texts-none places sorted kinds kept none some =
-      let near = near-texts table patterns rules is.keyed is.own name places sorted in
-      let found = kept-none patterns (hits_of patterns (texts patterns) rules name) kinds (kept near) none in
+  texts-none kinds kept none some =
+      let found = kept-none patterns (hits_of patterns (texts patterns) rules name) kinds kept none in
       omega (
         arith,
         some,

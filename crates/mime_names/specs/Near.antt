@@ -43,6 +43,10 @@ near_rules name rules = length (filter (near_rule name) rules)
 abbrev pub near_texts : List ℕ → List GlobRule → ℕ
 near_texts name rules = length (filter (λ rule. is_text_rule rule && near_rule name rule) rules)
 
+-- how many are neither
+abbrev pub near_others : List ℕ → List GlobRule → ℕ
+near_others name rules = length (filter (λ rule. not (is_text_rule rule) && near_rule name rule) rules)
+
 -- how many rules are no text and no star before a text
 abbrev pub general_rules : List GlobRule → ℕ
 general_rules rules = length (filter (λ rule. not (is_text_rule rule)) rules)

@@ -1,12 +1,11 @@
 //! The rules that are kept of those that match a name.
 
-ghost use Rattle.std.specs.Prelude.{◌≡◌, ◌+◌, ◌<◌, ◌≤◌, [], false, true, filter, length, map, IfOk};
+ghost use Rattle.std.specs.Prelude.{◌≡◌, ◌+◌, ◌*◌, ◌<◌, ◌≤◌, [], false, true, filter, length, map, IfOk};
 ghost use Rattle.std.specs.List.{All};
 ghost use Rattle.mime_base.specs.Kept.{hits, kept_rules, of_greatest, rank_of_rule};
-ghost use Rattle.mime_names.specs.Index.{held_kinds, held_types, texts_of};
-ghost use Rattle.mime_names.specs.Keys.{Fronts, IsTableOf};
-ghost use Rattle.mime_names.specs.Near.{longest, near_bytes, near_nodes, near_rules, near_texts, rule_bytes, text_bytes};
-ghost use Rattle.mime_names.specs.Places.{ComparesKeys, CountsPlaces, is_text_at};
+ghost use Rattle.mime_names.specs.Index.{held_kinds, held_types, rules_of_index, texts_of};
+ghost use Rattle.mime_names.specs.Keys.{IsTableOf};
+ghost use Rattle.mime_names.specs.Near.{longest, near_bytes, near_nodes, near_others, near_rules, near_texts, rule_bytes, text_bytes};
 ghost use Rattle.mime_names.specs.Rules.{AreRepeats, IsIndexedRule, hits_of, is_text_rule, others, plain};
 
 use crate::index::NameIndex;
@@ -137,9 +136,9 @@ fn other_kinds<'a>(
     requires keyed { IsTableOf table.now patterns.now rules.now }
     ensures kept { IfOk result (λ types. held_kinds types ≡ map (λ rule. rule.kind)
         (of_greatest (λ rule. rank_of_rule (plain patterns.now rule)) (hits_of patterns.now (others patterns.now) rules.now name.now))) }
-    ensures steps { CountsPlaces (Fronts name.now) table.now.keys.items meter.old.nodes 2 meter.new.nodes }
-    ensures bytes { ComparesKeys (is_text_at patterns.now rules.now) (Fronts name.now) table.now.keys.items (length name.now)
-        (rule_bytes (length name.now) (longest (map (plain patterns.now) rules.now))) meter.old.bytes meter.new.bytes }
+    ensures near { meter.new.nodes ≤ meter.old.nodes + 2 + near_others name.now (rules_of_index patterns.now rules.now) }
+    ensures bytes { meter.new.bytes ≤ meter.old.bytes + near_others name.now (rules_of_index patterns.now rules.now)
+        * rule_bytes (length name.now) (longest (rules_of_index patterns.now rules.now)) }
 {
     let mut fronts = SmallVec::new(alloc);
     front_places(&mut fronts, table, name, meter)?;

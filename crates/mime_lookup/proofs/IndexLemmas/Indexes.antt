@@ -1,5 +1,5 @@
 -- What an index keeps of its database, said of the database.
-use Rattle.std.proofs.Common.{◌≡◌, ℕ, ap, ap₂, ◌∙◌}
+use Rattle.std.proofs.Common.{◌≡◌, ap, ap₂, ◌∙◌}
 use Rattle.mime_base.specs.Database.{pairs_of, plain_database}
 use Rattle.mime_base.specs.declared.database.Database.{Database}
 use Rattle.mime_lookup.specs.Indexed.{IsIndexOf}

@@ -3,7 +3,6 @@ use Rattle.std.proofs.lemmas.Option.{IfSome_then}
 use denote.Bor.{Bor}
 use Rattle.mime_lookup.specs.Ancestry.{kinds_of}
 use Rattle.mime_lookup.specs.CheckingOrder.{IsSniffed, are_one_type}
-use Rattle.mime_lookup.specs.IndexBytes.{choice_bytes, content_bytes}
 use Rattle.mime_lookup.proofs.IndexLemmas.IndexNodes.{order-nodes}
 use Rattle.mime_lookup.proofs.IndexLemmas.OrderBytes.{chosen-bytes, named-bytes, sniffed-bytes}
 use Rattle.mime_lookup.proofs.OrderLemmas.Answering.{first_text}
@@ -112,86 +111,58 @@ returns-clause-read g c =
     (suffice_before _ _ c.args.question.now.order _ false c.in_ok-named.ensures.named several)
     c.in_ok-sniffed.ensures.read
 
--- the types that are asked cost no more
+-- no more nodes are counted
 pub returns-in_err-asked-clause-nodes : goal.returns-in_err-asked-clause-nodes
 returns-in_err-asked-clause-nodes g c =
     let question = c.args.question.now in
-    order-nodes question.order
-    (g.A.Asked.kept_nodes c.args.database.now question.name.now) (g.A.Asked.all_nodes c.args.database.now question.name.now)
-    c.args.meter.now.nodes c.sniff_content.new.meter.nodes c.asked_kinds.new.meter.nodes
+    order-nodes question.order _ _ c.args.meter.now.nodes c.sniff_content.new.meter.nodes c.asked_kinds.new.meter.nodes
     (λ alone. true≢false (sym (c.precedes_globs.ensures.alone alone) ∙ c.if-precedes_globs.false))
     (omega (arith, c.named_kinds.ensures.nodes, c.sniff_content.ensures.nodes)) c.asked_kinds.ensures.nodes
 
--- and no more nodes are counted
 pub returns-in_err-kind-clause-nodes : goal.returns-in_err-kind-clause-nodes
 returns-in_err-kind-clause-nodes g c =
     let question = c.args.question.now in
-    let before =
-    order-nodes question.order
-    (g.A.Asked.kept_nodes c.args.database.now question.name.now) (g.A.Asked.all_nodes c.args.database.now question.name.now)
-    c.args.meter.now.nodes c.sniff_content.new.meter.nodes c.asked_kinds.new.meter.nodes
+    order-nodes question.order _ _ c.args.meter.now.nodes c.sniff_content.new.meter.nodes c.choose.new.meter.nodes
     (λ alone. true≢false (sym (c.precedes_globs.ensures.alone alone) ∙ c.if-precedes_globs.false))
-    (omega (arith, c.named_kinds.ensures.nodes, c.sniff_content.ensures.nodes)) c.asked_kinds.ensures.nodes in
-    omega (arith, before, c.choose.ensures.nodes)
+    (omega (arith, c.named_kinds.ensures.nodes, c.sniff_content.ensures.nodes))
+    (omega (arith, c.asked_kinds.ensures.nodes, c.choose.ensures.nodes))
 
--- and no more nodes are counted
 pub returns-clause-nodes : goal.returns-clause-nodes
 returns-clause-nodes g c =
     let question = c.args.question.now in
-    let before =
-    order-nodes question.order
-    (g.A.Asked.kept_nodes c.args.database.now question.name.now) (g.A.Asked.all_nodes c.args.database.now question.name.now)
-    c.args.meter.now.nodes c.sniff_content.new.meter.nodes c.asked_kinds.new.meter.nodes
+    order-nodes question.order _ _ c.args.meter.now.nodes c.sniff_content.new.meter.nodes c.choose.new.meter.nodes
     (λ alone. true≢false (sym (c.precedes_globs.ensures.alone alone) ∙ c.if-precedes_globs.false))
-    (omega (arith, c.named_kinds.ensures.nodes, c.sniff_content.ensures.nodes)) c.asked_kinds.ensures.nodes in
-    omega (arith, before, c.choose.ensures.nodes)
+    (omega (arith, c.named_kinds.ensures.nodes, c.sniff_content.ensures.nodes))
+    (omega (arith, c.asked_kinds.ensures.nodes, c.choose.ensures.nodes))
 
 -- what the name takes is no more than the order allows
 pub returns-in_err-named-clause-bytes : goal.returns-in_err-named-clause-bytes
 returns-in_err-named-clause-bytes g c =
-    let b = g.A.Asked.plain c.args.database.now in
-    let question = c.args.question.now in
-    let kept = g.A.Asked.kept_bytes c.args.database.now question.name.now in
-    let all = g.A.Asked.all_bytes c.args.database.now question.name.now in
-    named-bytes kept all (content_bytes b c.args.read.now) (choice_bytes b question.name.now) c.args.meter.now.bytes
-    question.order _ c.named_kinds.new.meter.bytes c.named_kinds.ensures.bytes
+    named-bytes _ _ _ _ c.args.meter.now.bytes c.args.question.now.order _ c.named_kinds.new.meter.bytes c.named_kinds.ensures.bytes
 
--- what the name takes is no more than the order allows
 pub returns-then-are_one_type-clause-bytes : goal.returns-then-are_one_type-clause-bytes
 returns-then-are_one_type-clause-bytes g c =
-    let b = g.A.Asked.plain c.args.database.now in
-    let question = c.args.question.now in
-    let kept = g.A.Asked.kept_bytes c.args.database.now question.name.now in
-    let all = g.A.Asked.all_bytes c.args.database.now question.name.now in
-    named-bytes kept all (content_bytes b c.args.read.now) (choice_bytes b question.name.now) c.args.meter.now.bytes
-    question.order _ c.named_kinds.new.meter.bytes c.named_kinds.ensures.bytes
+    named-bytes _ _ _ _ c.args.meter.now.bytes c.args.question.now.order _ c.named_kinds.new.meter.bytes c.named_kinds.ensures.bytes
 
 -- nor is what the content then takes
 pub returns-in_err-sniffed-clause-bytes : goal.returns-in_err-sniffed-clause-bytes
 returns-in_err-sniffed-clause-bytes g c =
     let b = g.A.Asked.plain c.args.database.now in
     let question = c.args.question.now in
-    let kept = g.A.Asked.kept_bytes c.args.database.now question.name.now in
-    let all = g.A.Asked.all_bytes c.args.database.now question.name.now in
     let several : are_one_type (kinds_of c.in_ok-named.named.kinds.items) ≡ false =
     rw c.deref.ensures.value at (sym c.are_one_type.ensures ∙ c.if-are_one_type.false) in
     let undecided = suffice_before b question.name.now question.order _ false c.in_ok-named.ensures.named several in
-    sniffed-bytes kept all (content_bytes b c.sniff_content.new.read) (choice_bytes b question.name.now)
-    c.args.meter.now.bytes c.named_kinds.new.meter.bytes question.order _ c.sniff_content.new.meter.bytes undecided
+    sniffed-bytes _ _ _ _ c.args.meter.now.bytes c.named_kinds.new.meter.bytes question.order _ c.sniff_content.new.meter.bytes undecided
     c.named_kinds.ensures.bytes c.sniff_content.ensures.bytes
 
--- nor is what the content then takes
 pub returns-then-precedes_globs-clause-bytes : goal.returns-then-precedes_globs-clause-bytes
 returns-then-precedes_globs-clause-bytes g c =
     let b = g.A.Asked.plain c.args.database.now in
     let question = c.args.question.now in
-    let kept = g.A.Asked.kept_bytes c.args.database.now question.name.now in
-    let all = g.A.Asked.all_bytes c.args.database.now question.name.now in
     let several : are_one_type (kinds_of c.in_ok-named.named.kinds.items) ≡ false =
     rw c.deref.ensures.value at (sym c.are_one_type.ensures ∙ c.if-are_one_type.false) in
     let undecided = suffice_before b question.name.now question.order _ false c.in_ok-named.ensures.named several in
-    sniffed-bytes kept all (content_bytes b c.sniff_content.new.read) (choice_bytes b question.name.now)
-    c.args.meter.now.bytes c.named_kinds.new.meter.bytes question.order _ c.sniff_content.new.meter.bytes undecided
+    sniffed-bytes _ _ _ _ c.args.meter.now.bytes c.named_kinds.new.meter.bytes question.order _ c.sniff_content.new.meter.bytes undecided
     c.named_kinds.ensures.bytes c.sniff_content.ensures.bytes
 
 -- nor the types and the choice among them
@@ -199,23 +170,18 @@ pub returns-in_err-asked-clause-bytes : goal.returns-in_err-asked-clause-bytes
 returns-in_err-asked-clause-bytes g c =
     let b = g.A.Asked.plain c.args.database.now in
     let question = c.args.question.now in
-    let kept = g.A.Asked.kept_bytes c.args.database.now question.name.now in
-    let all = g.A.Asked.all_bytes c.args.database.now question.name.now in
     let several : are_one_type (kinds_of c.in_ok-named.named.kinds.items) ≡ false =
     rw c.deref.ensures.value at (sym c.are_one_type.ensures ∙ c.if-are_one_type.false) in
     let undecided = suffice_before b question.name.now question.order _ false c.in_ok-named.ensures.named several in
-    chosen-bytes kept all (content_bytes b c.sniff_content.new.read) (choice_bytes b question.name.now)
-    c.args.meter.now.bytes c.named_kinds.new.meter.bytes question.order _ c.sniff_content.new.meter.bytes c.asked_kinds.new.meter.bytes undecided
+    chosen-bytes _ _ _ _ c.args.meter.now.bytes c.named_kinds.new.meter.bytes question.order _
+    c.sniff_content.new.meter.bytes c.asked_kinds.new.meter.bytes undecided
     (λ alone. true≢false (sym (c.precedes_globs.ensures.alone alone) ∙ c.if-precedes_globs.false))
     c.named_kinds.ensures.bytes c.sniff_content.ensures.bytes (omega (arith, c.asked_kinds.ensures.bytes))
 
--- nor the types and the choice among them
 pub returns-in_err-kind-clause-bytes : goal.returns-in_err-kind-clause-bytes
 returns-in_err-kind-clause-bytes g c =
     let b = g.A.Asked.plain c.args.database.now in
     let question = c.args.question.now in
-    let kept = g.A.Asked.kept_bytes c.args.database.now question.name.now in
-    let all = g.A.Asked.all_bytes c.args.database.now question.name.now in
     let several : are_one_type (kinds_of c.in_ok-named.named.kinds.items) ≡ false =
     rw c.deref.ensures.value at (sym c.are_one_type.ensures ∙ c.if-are_one_type.false) in
     let undecided = suffice_before b question.name.now question.order _ false c.in_ok-named.ensures.named several in
@@ -224,18 +190,15 @@ returns-in_err-kind-clause-bytes g c =
     choice-asked b question.name.now c.keeps_limits.ensures.ranks c.keeps_limits.ensures.types c.in_ok-sniffed.sniffed found.0 question.host
     question.order found.2 c.in_ok-asked.asked.items (c.in_ok-asked.ensures.asked found.0 found.2.magic) in
     let chosen = rw c.deref-2.ensures.value at c.choose.ensures.bytes in
-    chosen-bytes kept all (content_bytes b c.sniff_content.new.read) (choice_bytes b question.name.now)
-    c.args.meter.now.bytes c.named_kinds.new.meter.bytes question.order _ c.sniff_content.new.meter.bytes c.choose.new.meter.bytes undecided
+    chosen-bytes _ _ _ _ c.args.meter.now.bytes c.named_kinds.new.meter.bytes question.order _
+    c.sniff_content.new.meter.bytes c.choose.new.meter.bytes undecided
     (λ alone. true≢false (sym (c.precedes_globs.ensures.alone alone) ∙ c.if-precedes_globs.false))
     c.named_kinds.ensures.bytes c.sniff_content.ensures.bytes (omega (arith, c.asked_kinds.ensures.bytes, chosen, less))
 
--- nor the types and the choice among them
 pub returns-clause-bytes : goal.returns-clause-bytes
 returns-clause-bytes g c =
     let b = g.A.Asked.plain c.args.database.now in
     let question = c.args.question.now in
-    let kept = g.A.Asked.kept_bytes c.args.database.now question.name.now in
-    let all = g.A.Asked.all_bytes c.args.database.now question.name.now in
     let several : are_one_type (kinds_of c.in_ok-named.named.kinds.items) ≡ false =
     rw c.deref.ensures.value at (sym c.are_one_type.ensures ∙ c.if-are_one_type.false) in
     let undecided = suffice_before b question.name.now question.order _ false c.in_ok-named.ensures.named several in
@@ -244,7 +207,7 @@ returns-clause-bytes g c =
     choice-asked b question.name.now c.keeps_limits.ensures.ranks c.keeps_limits.ensures.types c.in_ok-sniffed.sniffed found.0 question.host
     question.order found.2 c.in_ok-asked.asked.items (c.in_ok-asked.ensures.asked found.0 found.2.magic) in
     let chosen = rw c.deref-2.ensures.value at c.choose.ensures.bytes in
-    chosen-bytes kept all (content_bytes b c.sniff_content.new.read) (choice_bytes b question.name.now)
-    c.args.meter.now.bytes c.named_kinds.new.meter.bytes question.order _ c.sniff_content.new.meter.bytes c.choose.new.meter.bytes undecided
+    chosen-bytes _ _ _ _ c.args.meter.now.bytes c.named_kinds.new.meter.bytes question.order _
+    c.sniff_content.new.meter.bytes c.choose.new.meter.bytes undecided
     (λ alone. true≢false (sym (c.precedes_globs.ensures.alone alone) ∙ c.if-precedes_globs.false))
     c.named_kinds.ensures.bytes c.sniff_content.ensures.bytes (omega (arith, c.asked_kinds.ensures.bytes, chosen, less))

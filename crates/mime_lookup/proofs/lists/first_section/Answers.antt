@@ -1,8 +1,7 @@
-use Rattle.std.proofs.Common.{◌≡◌, ◌+◌, ◌≤◌, length, drop, ap, subst, sym, ◌∙◌, arith}
+use Rattle.std.proofs.Common.{length, ap, sym, ◌∙◌, arith}
 use Rattle.mime_base.specs.Magic.Holds.{some_holds}
-use Rattle.mime_base.specs.Magic.WindowBytes.{forest_bytes}
 use Rattle.mime_base.specs.Magic.{forest_of, plain_matchlets}
-use Rattle.mime_lookup.proofs.IndexLemmas.TriedLines.{sections_bytes, sections_bytes-all, sections_bytes-first}
+use Rattle.mime_lookup.proofs.IndexLemmas.TriedLines.{sections_bytes-all, sections_bytes-first}
 use Rattle.mime_lookup.proofs.SniffLemmas.FirstSections.{first_magic-here, first_magic-none, first_magic-past}
 use Rattle.mime_lookup.proofs.lists.first_section.Goals as goal
 
