@@ -3,6 +3,8 @@
 The text is what the toolchain's clang makes of the module that it is handed, by the same words. What a build stands on is taken
 as `rt ci` or an earlier check left it, and else proved first.
 """
+import importlib.machinery
+import importlib.util
 import os
 import shlex
 import shutil
@@ -30,12 +32,20 @@ done
 AS_ASKED, OF_TEXT = 'exec "$real" "$@"', 'exec "$real" "$1" -c -o "$object" "$kept"'
 
 
+def toolchain():
+    """The toolchain's library, by which what a check keeps is shared with the other checkouts on this machine, as `rt check` shares it."""
+    found = os.path.realpath(shutil.which("rt") or sys.exit("there is no rt on the path"))
+    if "rt" not in sys.modules:
+        loader = importlib.machinery.SourceFileLoader("rt", found)
+        sys.modules["rt"] = importlib.util.module_from_spec(importlib.util.spec_from_loader("rt", loader))
+        loader.exec_module(sys.modules["rt"])
+        sys.modules["rt"].share_work(is_alone=True)
+    return sys.modules["rt"].rtlib
+
+
 def crate_named(name):
     """The crate as the toolchain sees it, and the toolchain's library."""
-    found = shutil.which("rt") or sys.exit("there is no rt on the path")
-    sys.path.append(os.path.dirname(os.path.realpath(found)))
-    import rtlib
-
+    rtlib = toolchain()
     return next(it for it in rtlib.crates_below(TOP) if it.name == name), rtlib
 
 
