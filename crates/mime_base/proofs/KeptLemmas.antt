@@ -14,7 +14,8 @@ use Rattle.std.proofs.Common.{◌∷◌, length, get_or, max, refl, sym, ap, ◌
 use Rattle.std.specs.List.{All, filter}
 use Rattle.std.proofs.lemmas.Bool.{and_parts, leb-true, true≢false}
 use Rattle.std.proofs.lemmas.List.Elements.{All-weaker, filter_agree}
-use Rattle.mime_base.specs.Kept.{class_of, greatest, of_greatest, earliness, any_cased, of_first_class, heaviest}
+use Rattle.mime_base.specs.Kept.{greatest, of_greatest, earliness, any_cased, of_first_class, heaviest}
+use Rattle.mime_base.specs.Kept.Classes.{class_of}
 use Rattle.mime_base.specs.Kept.{longest, cased_if_any, preferred, rank, FitsRank, GreatestRankIsPreferred}
 use Rattle.mime_base.specs.Names.{is_pattern}
 use Rattle.mime_base.specs.declared.database.rule.GlobRule.{GlobRule}

@@ -2,23 +2,18 @@
 -- weight, then the longest pattern, then the case-sensitive ones if any is. And all that match, in this order.
 pub mod Rows
 pub mod CandidateRows
+pub mod Classes
 pub mod Hidden
 pub mod HiddenRows
 pub mod Twins
 pub mod TwinRows
-use Rattle.std.specs.Prelude.{◌≡◌, ℕ, ◌+◌, ◌*◌, ◌<◌, Bool, false, ◌&&◌, ◌||◌, ◌==◌, if◌then◌else◌, List, [], ◌∷◌, length, take, max, filter, All}
+use Rattle.std.specs.Prelude.{◌≡◌, ℕ, ◌+◌, ◌*◌, ◌<◌, Bool, false, ◌||◌, ◌==◌, if◌then◌else◌, List, [], ◌∷◌, length, take, max, filter, All}
 use Rattle.mime_base.specs.Falling.{falling}
-use Rattle.mime_base.specs.Matching.Elements.{is_literal_text}
+use Rattle.mime_base.specs.Kept.Classes.{class_of}
 use Rattle.mime_base.specs.Matching.Matches.{rule_matches}
 use Rattle.mime_base.specs.declared.kept.class.Class.{Class}
 use Rattle.mime_base.specs.declared.kept.class.Class.TheVariants.{Literal, Suffix, Full}
 use Rattle.mime_base.specs.declared.database.rule.GlobRule.{GlobRule}
-
--- Literal with no special byte, Suffix with a first `*` (42) and none after it, else Full
-unfoldable pub class_of : List ℕ → Class
-class_of [] = Literal
-class_of (b ∷ rest) =
-    if is_literal_text (b ∷ rest) then Literal else (if b == 42 && is_literal_text rest then Suffix else Full)
 
 -- the greatest number that f gives over a list, 0 over an empty one
 abbrev pub greatest : {X : Type 0} → (X → ℕ) → List X → ℕ

@@ -17,7 +17,7 @@ pub fn sample_is_spelled()
 {}
 
 /// The bytes that this database and the empty one take where no text is shared.
-#[tactic(auto, unfolding(crate::specs::Kept::class_of))]
+#[tactic(auto, unfolding(crate::specs::Kept::Classes::class_of))]
 pub fn rooms()
     // The sample takes 256 bytes where no text is shared.
     ensures sample { room sample_database ≡ 256 }

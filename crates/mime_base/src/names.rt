@@ -8,6 +8,7 @@ ghost use Rattle.std.specs.List.{list_all};
 ghost use Rattle.mime_base.specs.Names.{has_inner_slash, is_icon_byte, is_icon_name, is_name_byte, is_pattern};
 ghost use Rattle.mime_base.specs.Names.{is_pattern_byte, is_type_name};
 
+use crate::kept::class::{Class, class_of_bytes};
 use smallvec::SmallVec;
 use std::alloc::Global;
 use std::marker::Model;
@@ -108,17 +109,20 @@ impl TypeName {
 #[derive(Debug, Drop)]
 pub struct Pattern {
     glob: SmallVec<u8, SHORT_PATTERN>,
+    /// Its class, which every rule is ranked and stored by, found once.
+    pub(crate) class: Class,
 }
 
 impl Model for Pattern {
     ghost use Rattle.std.specs.Prelude.{◌≡◌, ℕ, List, true};
+    ghost use Rattle.mime_base.specs.Kept.Classes.{class_of};
     ghost use Rattle.mime_base.specs.Names.{is_pattern};
 
     ghost Value = { List ℕ };
 
     ghost view = { λ pattern. pattern.glob.items };
 
-    ghost invariant = { λ pattern. is_pattern pattern.glob.items ≡ true };
+    ghost invariant = { λ pattern. (is_pattern pattern.glob.items ≡ true) × (pattern.class ≡ class_of pattern.glob.items) };
 }
 
 impl Pattern {
@@ -134,7 +138,10 @@ impl Pattern {
             return Err(NameFault::BadPattern);
         }
         match SmallVec::from_slice(alloc, bytes) {
-            Ok(glob) => Ok(Pattern { glob }),
+            Ok(glob) => Ok(Pattern {
+                glob,
+                class: class_of_bytes(bytes),
+            }),
             Err(_) => Err(NameFault::OutOfMemory),
         }
     }

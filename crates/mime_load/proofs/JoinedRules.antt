@@ -10,7 +10,7 @@ use Rattle.mime_base.specs.Format.Rules.{IsRule}
 use Rattle.mime_base.specs.Format.Sorted.{IsSortedByText, with_key}
 use Rattle.mime_base.specs.Format.Stored.{glob_rules, is_in_globs, is_in_literals, is_in_tree, is_literal_class, is_suffix_class, literal_rules, reversed_ending, stored_text, tree_rules}
 use Rattle.mime_base.specs.Format.SuffixTree.{front_count, tree_size}
-use Rattle.mime_base.specs.Kept.{class_of}
+use Rattle.mime_base.specs.Kept.Classes.{class_of}
 use Rattle.mime_base.specs.declared.database.rule.GlobRule.{GlobRule}
 use Rattle.mime_base.specs.declared.kept.class.Class.{Class}
 use Rattle.mime_base.specs.declared.kept.class.Class.TheVariants.{Literal, Suffix, Full}

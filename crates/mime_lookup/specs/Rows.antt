@@ -2,7 +2,7 @@
 use Rattle.std.specs.Prelude.{◌≡◌, ℕ, ◌+◌, ◌*◌, true, false, refl, codes, List, [], ◌∷◌, ◌++◌, get_or, length, None}
 use Rattle.std.specs.List.{list_all}
 use Rattle.mime_base.specs.Database.{PlainDatabase}
-use Rattle.mime_base.specs.Kept.{class_of}
+use Rattle.mime_base.specs.Kept.Classes.{class_of}
 use Rattle.mime_base.specs.Magic.{bare, line, line_from}
 use Rattle.mime_base.specs.Magic.Textual.{looks_textual}
 use Rattle.mime_base.specs.Names.{is_type_name}

@@ -2,7 +2,7 @@
 pub mod Rows
 use Rattle.std.specs.Prelude.{ℕ, ◌+◌, ◌*◌, ◌-◌, ◌/◌, max, nat_lt, Bool, not, ◌&&◌, ◌||◌, ◌==◌, if◌then◌else◌, List, [], ◌∷◌, length, drop, filter}
 use Rattle.std.specs.Str.{bytes_eq}
-use Rattle.mime_base.specs.Kept.{class_of}
+use Rattle.mime_base.specs.Kept.Classes.{class_of}
 use Rattle.mime_base.specs.Matching.Elements.{is_special}
 use Rattle.mime_base.specs.Matching.Folding.{folded}
 use Rattle.mime_base.specs.declared.database.rule.GlobRule.{GlobRule}

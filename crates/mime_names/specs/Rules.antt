@@ -1,7 +1,8 @@
 -- Rules as an index has them: a pattern is lent, or stands in the text of all.
 use Rattle.std.specs.Prelude.{◌≡◌, ◌+◌, ◌<◌, ℕ, Bool, true, false, not, ◌&&◌, List, filter, get_or, length}
 use Rattle.std.specs.Borrow.{Bor}
-use Rattle.mime_base.specs.Kept.{FitsRank, class_of, rank_of_rule}
+use Rattle.mime_base.specs.Kept.{FitsRank, rank_of_rule}
+use Rattle.mime_base.specs.Kept.Classes.{class_of}
 use Rattle.mime_base.specs.Matching.Matches.{rule_matches}
 use Rattle.mime_base.specs.declared.database.rule.GlobRule.{GlobRule}
 use Rattle.mime_base.specs.declared.kept.class.Class.{Class}

@@ -3,6 +3,7 @@
 ghost use Rattle.std.specs.Prelude.{◌≡◌, ◌<◌, ◌-◌, [], ◌∷◌, ◌++◌, true, get_or, length, IfOk};
 ghost use Rattle.std.specs.List.{All};
 ghost use Rattle.mime_base.specs.Kept.{FitsRank};
+ghost use Rattle.mime_base.specs.Kept.Classes.{class_of};
 ghost use Rattle.mime_names.specs.Patterns.{IsWithin, pattern_in};
 ghost use Rattle.mime_names.specs.Rules.{HasPattern, IsEntryOf, IsIndexedRule, own_named, plain_named};
 ghost use Rattle.mime_names.specs.declared.indexed_rule.IndexedRule as spec;
@@ -10,7 +11,7 @@ ghost use Rattle.mime_names.specs.declared.indexed_rule.IndexedRule as spec;
 use crate::indexed_rule::{IndexedRule, pattern_of};
 use crate::named_rule::NamedRule;
 use crate::pattern_text::bytes_of;
-use mime_base::{OutOfMemory, class_of_bytes, rank_of};
+use mime_base::{Class, OutOfMemory, class_of_bytes, rank_of};
 use std::alloc::Global;
 use std::marker::Model;
 
@@ -64,11 +65,36 @@ impl<'a> IndexedRules<'a> {
           patterns = self.entry.patterns;
         }) }
     {
+        let class = class_of_bytes(bytes_of(&self.patterns, named.pattern));
+        self.with_class(class, named)
+    }
+
+    /// The same, of a rule with a pattern whose class is known.
+    // Always inlined, as that is.
+    #[inline(always)]
+    pub fn with_class(
+        self,
+        class: Class,
+        named: NamedRule<'a>,
+    ) -> Result<IndexedRules<'a>, OutOfMemory>
+        // Its pattern is lent, or stands in the text.
+        requires within { IsWithin self.patterns named.pattern }
+        // Its pattern has this class.
+        requires class { class ≡ class_of (pattern_in self.patterns named.pattern) }
+        // It keeps the limits of ranks.
+        requires limits { FitsRank (plain_named self.patterns named) }
+        // It comes after these, and the text stays.
+        ensures { IfOk result (λ all. all ≡ record {
+          given = self.entry.given ++ plain_named self.entry.patterns named.entry ∷ [];
+          own = self.entry.own ++ own_named self.entry.patterns named.entry ∷ [];
+          patterns = self.entry.patterns;
+        }) }
+    {
         let IndexedRules {
             mut rules,
             patterns,
         } = self;
-        let rule = indexed_rule(&patterns, &rules, &named);
+        let rule = indexed_rule(&patterns, &rules, class, &named);
         rules.push(rule)?;
         Ok(IndexedRules { rules, patterns })
     }
@@ -79,10 +105,12 @@ impl<'a> IndexedRules<'a> {
 fn indexed_rule<'a>(
     patterns: &[u8],
     rules: &[IndexedRule<'a>],
+    class: Class,
     named: &NamedRule<'a>,
 ) -> IndexedRule<'a>
     requires own { All (IsIndexedRule patterns.now) rules.now }
     requires within { IsWithin patterns.now named.now.pattern }
+    requires class { class ≡ class_of (pattern_in patterns.now named.now.pattern) }
     requires limits { FitsRank (plain_named patterns.now named.now) }
     ensures entry { IsEntryOf patterns.now named.now result }
     ensures some { result.repeats ≡ true → 0 < length rules.now }
@@ -90,7 +118,6 @@ fn indexed_rule<'a>(
         HasPattern patterns.now named.now.cased (pattern_in patterns.now named.now.pattern) last }
 {
     let pattern = bytes_of(patterns, named.pattern);
-    let class = class_of_bytes(pattern);
     let rank = rank_of(class, named.weight, pattern.len() as u16, named.cased);
     IndexedRule {
         kind: named.kind,

@@ -4,7 +4,8 @@ use Rattle.mime_base.specs.Cache.Bytes.{field}
 use Rattle.mime_base.specs.Cache.Texts.{text_at}
 use Rattle.mime_base.specs.Format.Sorted.{with_key}
 use Rattle.mime_base.specs.Format.Stored.{stored_text, weight_and_flags}
-use Rattle.mime_base.specs.Kept.{FitsRank, class_of}
+use Rattle.mime_base.specs.Kept.{FitsRank}
+use Rattle.mime_base.specs.Kept.Classes.{class_of}
 use Rattle.mime_base.specs.declared.database.rule.GlobRule.{GlobRule}
 use Rattle.mime_base.specs.declared.kept.class.Class.TheVariants.{Literal}
 use Rattle.mime_view.specs.Hits.{takes_rule}

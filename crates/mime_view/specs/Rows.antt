@@ -1,6 +1,6 @@
 -- Worked rows of what a cache offers for a name, of its lists and of what is taken for them, which compute.
 use Rattle.std.specs.Prelude.{◌≡◌, ℕ, ◌+◌, ◌*◌, Bool, true, false, refl, codes, List, [], ◌∷◌, map, length, None, Some}
-use Rattle.mime_base.specs.Kept.{class_of}
+use Rattle.mime_base.specs.Kept.Classes.{class_of}
 use Rattle.mime_base.specs.Matching.Elements.{elements}
 use Rattle.mime_base.specs.Matching.Matches.{matches, rule_matches}
 use Rattle.mime_base.specs.Format.Tree.{bare, leaf, node}

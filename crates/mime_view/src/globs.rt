@@ -4,7 +4,8 @@
 ghost use Rattle.std.specs.Prelude.{◌≡◌, ◌==◌, ◌+◌, ◌*◌, ◌/◌, ◌%◌, ◌<◌, ◌≤◌, [], ◌∷◌, length, OnOk};
 ghost use Rattle.mime_base.specs.Format.Rules.{GlobsAt};
 ghost use Rattle.mime_base.specs.Format.Stored.{glob_rules};
-ghost use Rattle.mime_base.specs.Kept.{FitsRank, class_of, hits as matching, rank};
+ghost use Rattle.mime_base.specs.Kept.{FitsRank, hits as matching, rank};
+ghost use Rattle.mime_base.specs.Kept.Classes.{class_of};
 ghost use Rattle.mime_base.specs.declared.database.rule.GlobRule.{GlobRule};
 ghost use Rattle.mime_view.specs.Lists.{LiesList};
 ghost use Rattle.mime_view.specs.Globs.{ReadsGlob};

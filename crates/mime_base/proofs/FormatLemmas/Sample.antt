@@ -1,7 +1,7 @@
 -- The cache that was made by hand spells its database, and is packed.
 use Rattle.std.proofs.Common.{[], ◌∷◌, refl, lit≤, codes}
 use Rattle.mime_base.specs.Cache.Bytes.{Stands, card_bytes}
-use Rattle.mime_base.specs.Kept.{class_of}
+use Rattle.mime_base.specs.Kept.Classes.{class_of}
 use Rattle.mime_base.specs.Database.Subclass.{parents}
 use Rattle.mime_base.specs.Format.Header.{HeaderAt, Offsets}
 use Rattle.mime_base.specs.Format.Magic.{MagicAt}

@@ -3,7 +3,7 @@ use Rattle.std.proofs.Common.{◌≡◌, ℕ, Bool, true, false, cond, ◌&&◌,
 use Rattle.std.specs.Prelude.{bytes_eq}
 use Rattle.std.proofs.lemmas.List.{append-nil}
 use Rattle.mime_base.specs.Cache.Bytes.{Stands, card_bytes}
-use Rattle.mime_base.specs.Kept.{class_of}
+use Rattle.mime_base.specs.Kept.Classes.{class_of}
 use Rattle.mime_base.specs.Format.Sample.{gz_rule, sample, sample_database}
 use Rattle.mime_base.specs.Format.SuffixTree.{SuffixTreeAt}
 use Rattle.mime_base.specs.Format.Tree.{Tree, bare, leaf, leaves_at, node}

@@ -5,7 +5,7 @@ use Rattle.std.proofs.Common.{List, [], ◌∷◌}
 use Rattle.std.proofs.Common.{drop, refl, sym, ap, ap₂, ◌∙◌, lit<}
 use Rattle.std.proofs.lemmas.Bool.{and_from, and_parts, eqb-true, eq-eqb, not-true}
 use Rattle.std.proofs.lemmas.List.{drop-map}
-use Rattle.mime_base.specs.Kept.{class_of}
+use Rattle.mime_base.specs.Kept.Classes.{class_of}
 use Rattle.mime_base.specs.Kept.Hidden.{is_by_text}
 use Rattle.mime_base.specs.Matching.Elements.{elements, is_literal_text, is_special}
 use Rattle.mime_base.specs.Matching.Folding.{compared, compared_byte}

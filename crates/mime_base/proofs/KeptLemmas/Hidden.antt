@@ -9,7 +9,8 @@ use Rattle.std.proofs.lemmas.List.{length-map}
 use Rattle.std.proofs.lemmas.List.Elements.{All-contains, All-filter, All-weaker, filter_passes}
 use Rattle.std.proofs.lemmas.List.Sums.{AllPass-from_list_all}
 use Rattle.std.proofs.lemmas.Slice.Eq.{bytes_eq-Decides}
-use Rattle.mime_base.specs.Kept.{class_of, earliness, greatest, hits, kept_rules, preferred}
+use Rattle.mime_base.specs.Kept.{earliness, greatest, hits, kept_rules, preferred}
+use Rattle.mime_base.specs.Kept.Classes.{class_of}
 use Rattle.mime_base.specs.Kept.Hidden.{is_by_text, is_cased_twin, is_hidden, spellings, visible, VisibleIsEnough}
 use Rattle.mime_base.specs.Matching.Folding.{compared, compared_byte}
 use Rattle.mime_base.specs.Matching.Matches.{rule_matches}

@@ -3,7 +3,7 @@ use Rattle.std.specs.Prelude.{◌≡◌, ℕ, false, refl, codes, List, [], ◌�
 use Rattle.mime_base.specs.Database.{PlainDatabase}
 use Rattle.mime_base.specs.Format.Packed.{record_bytes, value_length}
 use Rattle.mime_base.specs.Format.Sample.{gz_rule, mk_rule, sample_database}
-use Rattle.mime_base.specs.Kept.{class_of}
+use Rattle.mime_base.specs.Kept.Classes.{class_of}
 use Rattle.mime_base.specs.Magic.{Forest, bare, line, line_from}
 use Rattle.mime_base.specs.declared.database.rule.GlobRule.{GlobRule}
 

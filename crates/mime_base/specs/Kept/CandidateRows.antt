@@ -1,6 +1,7 @@
 -- Worked rows of the candidates, which compute.
 use Rattle.std.specs.Prelude.{◌≡◌, ℕ, Bool, true, false, refl, codes, List, [], ◌∷◌, map}
-use Rattle.mime_base.specs.Kept.{candidate_rules, class_of, rank}
+use Rattle.mime_base.specs.Kept.{candidate_rules, rank}
+use Rattle.mime_base.specs.Kept.Classes.{class_of}
 use Rattle.mime_base.specs.Matching.Elements.{elements}
 use Rattle.mime_base.specs.Matching.Matches.{matches, rule_matches}
 use Rattle.mime_base.specs.declared.database.rule.GlobRule.{GlobRule}

@@ -1,6 +1,6 @@
 -- Worked rows of the rules that are never kept, which compute.
 use Rattle.std.specs.Prelude.{◌≡◌, ℕ, Bool, true, false, refl, codes, List, [], ◌∷◌, map}
-use Rattle.mime_base.specs.Kept.{class_of}
+use Rattle.mime_base.specs.Kept.Classes.{class_of}
 use Rattle.mime_base.specs.Kept.Hidden.{is_hidden, spellings}
 use Rattle.mime_base.specs.declared.database.rule.GlobRule.{GlobRule}
 

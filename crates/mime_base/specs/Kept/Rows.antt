@@ -1,6 +1,7 @@
 -- Worked rows of the kept rules, which compute.
 use Rattle.std.specs.Prelude.{◌≡◌, ℕ, Bool, true, false, refl, codes, List, [], ◌∷◌, map}
-use Rattle.mime_base.specs.Kept.{class_of, kept_rules, preferred}
+use Rattle.mime_base.specs.Kept.{kept_rules, preferred}
+use Rattle.mime_base.specs.Kept.Classes.{class_of}
 use Rattle.mime_base.specs.Matching.Elements.{elements}
 use Rattle.mime_base.specs.Matching.Matches.{matches, rule_matches}
 use Rattle.mime_base.specs.declared.database.rule.GlobRule.{GlobRule}

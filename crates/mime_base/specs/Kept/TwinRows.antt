@@ -1,6 +1,6 @@
 -- Worked rows of twins, which compute.
 use Rattle.std.specs.Prelude.{◌≡◌, Bool, true, false, refl, codes, List, [], ◌∷◌, map}
-use Rattle.mime_base.specs.Kept.{class_of}
+use Rattle.mime_base.specs.Kept.Classes.{class_of}
 use Rattle.mime_base.specs.Kept.Hidden.{is_hidden, visible}
 use Rattle.mime_base.specs.Kept.HiddenRows.{line}
 use Rattle.mime_base.specs.Kept.Twins.{is_twin, without_twins}

@@ -1,6 +1,6 @@
 -- Worked rows of type names, patterns and classes, which compute.
 use Rattle.std.specs.Prelude.{◌≡◌, ℕ, zero, suc, true, false, refl, codes, List, [], ◌∷◌}
-use Rattle.mime_base.specs.Kept.{class_of}
+use Rattle.mime_base.specs.Kept.Classes.{class_of}
 use Rattle.mime_base.specs.Names.{is_icon_name, is_pattern, is_type_name}
 use Rattle.mime_base.specs.declared.kept.class.Class.TheVariants.{Literal, Suffix, Full}
 

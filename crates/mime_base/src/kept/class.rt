@@ -1,7 +1,7 @@
 //! The class of a pattern, by which rules are stored, sought and ranked. This project's own.
 
 ghost use Rattle.std.specs.Prelude.{◌≡◌};
-ghost use Rattle.mime_base.specs.Kept.{class_of};
+ghost use Rattle.mime_base.specs.Kept.Classes.{class_of};
 
 use crate::matching::elements::is_literal_text;
 use crate::names::Pattern;
@@ -24,11 +24,11 @@ pub fn class_of(pattern: &Pattern) -> Class
     // Literal without `*`, `?`, `[` and `\`; Suffix with a `*` before such a text; else Full.
     ensures { result ≡ class_of pattern.now }
 {
-    class_of_bytes(pattern.bytes())
+    pattern.class
 }
 
 /// The class of any text, by the same rule.
-#[tactic(auto, unfolding(crate::specs::Kept::class_of))]
+#[tactic(auto, unfolding(crate::specs::Kept::Classes::class_of))]
 pub fn class_of_bytes(text: &[u8]) -> Class
     // Literal without `*`, `?`, `[` and `\`; Suffix with a `*` before such a text; else Full.
     ensures { result ≡ class_of text.now }

@@ -1,7 +1,7 @@
 -- Worked rows of the bytes of a lookup over an index, which compute.
 use Rattle.std.specs.Prelude.{◌≡◌, ℕ, ◌+◌, true, false, refl, codes, List, [], ◌∷◌}
 use Rattle.mime_base.specs.Format.Sample.{empty_database}
-use Rattle.mime_base.specs.Kept.{class_of}
+use Rattle.mime_base.specs.Kept.Classes.{class_of}
 use Rattle.mime_base.specs.Matching.Elements.{elements}
 use Rattle.mime_base.specs.Matching.Matches.{matches, rule_matches}
 use Rattle.mime_base.specs.declared.database.rule.GlobRule.{GlobRule}

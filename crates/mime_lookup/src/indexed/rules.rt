@@ -8,7 +8,7 @@ ghost use Rattle.mime_lookup.specs.Indexed.{unaliased_rule};
 ghost use Rattle.mime_lookup.specs.Places.{IsPlaced};
 
 use crate::places::{Places, unalias_at};
-use mime_base::{GlobRule, OutOfMemory};
+use mime_base::{GlobRule, OutOfMemory, class_of};
 use mime_names::{IndexedRules, NamedRule, PatternText};
 use std::alloc::Global;
 
@@ -30,13 +30,14 @@ pub fn lent_rules<'a>(
     let mut lent = IndexedRules::new(alloc, rules.len(), Vec::new(alloc))?;
     for rule in rules {
         let own_kind = rule.kind.bytes();
-        lent = lent.with(NamedRule {
+        let named = NamedRule {
             weight: rule.weight,
             kind: unalias_at(aliases, own_kind),
             own_kind,
             pattern: PatternText::Lent(rule.pattern.bytes()),
             cased: rule.cased,
-        })?;
+        };
+        lent = lent.with_class(class_of(&rule.pattern), named)?;
     }
     Ok(lent)
 }

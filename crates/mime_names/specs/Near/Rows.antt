@@ -1,6 +1,6 @@
 -- Worked rows of the rules near a name, which compute.
 use Rattle.std.specs.Prelude.{◌≡◌, ℕ, ◌+◌, true, false, refl, codes, List, [], ◌∷◌, drop}
-use Rattle.mime_base.specs.Kept.{class_of}
+use Rattle.mime_base.specs.Kept.Classes.{class_of}
 use Rattle.mime_base.specs.declared.database.rule.GlobRule.{GlobRule}
 use Rattle.mime_names.specs.Near.{general_rules, is_mostly_general, longest, near_bytes, near_nodes, near_rules, near_texts, rule_bytes, text_bytes}
 

@@ -5,7 +5,7 @@ use Rattle.std.specs.List.{filter, list_all, list_any}
 use Rattle.std.proofs.lemmas.Bool.{le-ltb, leb-false, leb-true, lt-ltb, ltb-false, ltb-true}
 use Rattle.std.proofs.lemmas.List.{drop_more}
 use Rattle.std.proofs.lemmas.Slice.Eq.{bytes_eq-Decides}
-use Rattle.mime_base.specs.Kept.{class_of}
+use Rattle.mime_base.specs.Kept.Classes.{class_of}
 use Rattle.mime_base.specs.Kept.Hidden.{is_by_text, is_cased_twin, is_hidden, spellings}
 use Rattle.mime_base.specs.Matching.Folding.{compared, folded}
 use Rattle.mime_base.specs.declared.database.rule.GlobRule.{GlobRule}

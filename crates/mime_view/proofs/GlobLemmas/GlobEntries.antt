@@ -5,7 +5,8 @@ use Rattle.std.proofs.Math.Nat.{mul-le-mul_left, mul-le-mul_right}
 use Rattle.mime_base.specs.Cache.Bytes.{fields}
 use Rattle.mime_base.specs.Cache.Texts.{text_at}
 use Rattle.mime_base.specs.Format.Stored.{stored_text}
-use Rattle.mime_base.specs.Kept.{FitsRank, class_of, hits, rank, rank_of_rule}
+use Rattle.mime_base.specs.Kept.{FitsRank, hits, rank, rank_of_rule}
+use Rattle.mime_base.specs.Kept.Classes.{class_of}
 use Rattle.mime_base.specs.Matching.Matches.{rule_matches}
 use Rattle.mime_base.specs.Meter.{raised}
 use Rattle.mime_base.specs.declared.database.rule.GlobRule.{GlobRule}

@@ -7,7 +7,8 @@ use Rattle.std.proofs.lemmas.List.{get_or-map, length-map}
 use Rattle.std.proofs.lemmas.List.Elements.{All-filter, recursion_from_All}
 use Rattle.mime_base.specs.Cache.Texts.{text_at}
 use Rattle.mime_base.specs.Falling.{falling, insert_falling}
-use Rattle.mime_base.specs.Kept.{FitsRank, best, candidate_rules, class_of, earliness, hits, kept_rules, rank, rank_of_rule}
+use Rattle.mime_base.specs.Kept.{FitsRank, best, candidate_rules, earliness, hits, kept_rules, rank, rank_of_rule}
+use Rattle.mime_base.specs.Kept.Classes.{class_of}
 use Rattle.mime_base.specs.Matching.Matches.{rule_matches}
 use Rattle.mime_base.specs.declared.database.rule.GlobRule.{GlobRule}
 use Rattle.mime_base.specs.declared.kept.class.Class.{Class}

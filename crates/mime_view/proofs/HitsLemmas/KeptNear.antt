@@ -4,7 +4,8 @@ use Rattle.std.specs.List.{filter}
 use Rattle.std.proofs.lemmas.Bool.{and_from, and_parts}
 use Rattle.std.proofs.lemmas.List.Filters.{length-filter_both}
 use Rattle.mime_base.specs.Format.Stored.{is_in_globs, is_in_literals, is_in_tree}
-use Rattle.mime_base.specs.Kept.{any_cased, candidate_rules, cased_if_any, class_of, earliness, greatest, heaviest, hits, kept_rules, longest}
+use Rattle.mime_base.specs.Kept.{any_cased, candidate_rules, cased_if_any, earliness, greatest, heaviest, hits, kept_rules, longest}
+use Rattle.mime_base.specs.Kept.Classes.{class_of}
 use Rattle.mime_base.specs.Kept.{of_first_class, of_greatest, preferred, rank_of_rule}
 use Rattle.mime_base.specs.Matching.Folding.{compared}
 use Rattle.mime_base.specs.Matching.Matches.{rule_matches}

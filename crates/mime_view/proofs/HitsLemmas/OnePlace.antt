@@ -4,7 +4,7 @@ use Rattle.std.proofs.Common.{append-nil, refl, sym, ap, ap₂, ◌∙◌}
 use Rattle.std.specs.List.{All, filter}
 use Rattle.std.proofs.lemmas.List.Elements.{All-head, All-weaker}
 use Rattle.mime_base.specs.Format.Stored.{is_literal_class, is_suffix_class}
-use Rattle.mime_base.specs.Kept.{class_of}
+use Rattle.mime_base.specs.Kept.Classes.{class_of}
 use Rattle.mime_base.specs.declared.database.rule.GlobRule.{GlobRule}
 use Rattle.mime_base.specs.declared.kept.class.Class.{Class}
 use Rattle.mime_base.specs.declared.kept.class.Class.TheVariants.{Full, Literal, Suffix}

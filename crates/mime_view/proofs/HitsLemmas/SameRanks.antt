@@ -3,7 +3,8 @@ use Rattle.std.proofs.Common.{◌≡◌, ℕ, ◌+◌, ◌*◌, ◌<◌, ◌≤�
 use Rattle.std.proofs.Common.{refl, sym, ap, ◌∙◌, arith}
 use Rattle.std.specs.List.{filter}
 use Rattle.std.proofs.lemmas.Bool.{cases_lt, ne_eqb}
-use Rattle.mime_base.specs.Kept.{FitsRank, class_of, earliness, greatest, of_greatest, rank, rank_of_rule}
+use Rattle.mime_base.specs.Kept.{FitsRank, earliness, greatest, of_greatest, rank, rank_of_rule}
+use Rattle.mime_base.specs.Kept.Classes.{class_of}
 use Rattle.mime_base.specs.declared.kept.class.Class.{Class}
 use Rattle.mime_base.specs.declared.kept.class.Class.TheVariants.{Full, Literal, Suffix}
 use Rattle.mime_base.specs.declared.database.rule.GlobRule.{GlobRule}

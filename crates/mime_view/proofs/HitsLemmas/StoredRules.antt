@@ -4,7 +4,8 @@ use Rattle.std.proofs.Common.{cond, inl, lit<, List, [], ◌∷◌, length, refl
 use Rattle.std.proofs.lemmas.Bool.Decides.{nat_tests}
 use Rattle.std.proofs.lemmas.List.{length-map}
 use Rattle.mime_base.specs.Format.Stored.{stored_text, weight_and_flags}
-use Rattle.mime_base.specs.Kept.{class_of, rank, rank_of_rule}
+use Rattle.mime_base.specs.Kept.{rank, rank_of_rule}
+use Rattle.mime_base.specs.Kept.Classes.{class_of}
 use Rattle.mime_base.specs.Matching.Folding.{compared, compared_byte}
 use Rattle.mime_base.specs.Matching.Matches.{matches, rule_matches}
 use Rattle.mime_base.specs.declared.database.rule.GlobRule.{GlobRule}

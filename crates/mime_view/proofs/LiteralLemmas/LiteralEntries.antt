@@ -14,7 +14,8 @@ use Rattle.mime_base.specs.Format.Records.{RecordsAt}
 use Rattle.mime_base.specs.Format.Rules.{IsRule}
 use Rattle.mime_base.specs.Format.Sorted.{text_lt}
 use Rattle.mime_base.specs.Format.Stored.{is_in_literals, is_literal_class, literal_rules, stored_text, weight_and_flags}
-use Rattle.mime_base.specs.Kept.{FitsRank, class_of}
+use Rattle.mime_base.specs.Kept.{FitsRank}
+use Rattle.mime_base.specs.Kept.Classes.{class_of}
 use Rattle.mime_base.specs.Matching.Folding.{compared_byte}
 use Rattle.mime_base.specs.declared.database.rule.GlobRule.{GlobRule}
 use Rattle.mime_base.specs.declared.kept.class.Class.{Class}

@@ -7,7 +7,8 @@ use Rattle.std.proofs.lemmas.List.Elements.{All-filter, filter_passes}
 use Rattle.std.proofs.lemmas.Slice.Eq.{bytes_eq-Decides}
 use Rattle.mime_base.specs.Format.Sorted.{with_key}
 use Rattle.mime_base.specs.Format.Stored.{is_in_tree, is_suffix_class, reversed_ending, stored_text, tree_rules}
-use Rattle.mime_base.specs.Kept.{FitsRank, class_of}
+use Rattle.mime_base.specs.Kept.{FitsRank}
+use Rattle.mime_base.specs.Kept.Classes.{class_of}
 use Rattle.mime_base.specs.Matching.Folding.{compared_byte}
 use Rattle.mime_base.specs.declared.database.rule.GlobRule.{GlobRule}
 use Rattle.mime_base.specs.declared.kept.class.Class.{Class}

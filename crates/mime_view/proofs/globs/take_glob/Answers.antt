@@ -1,5 +1,5 @@
 use Rattle.std.proofs.Common.{◌≡◌, ℕ, arith, rules, get_or, length, inl, refl, sym, ap, subst, ◌∙◌}
-use Rattle.mime_base.specs.Kept.{class_of}
+use Rattle.mime_base.specs.Kept.Classes.{class_of}
 use Rattle.mime_view.specs.Gathered.{AddsAt}
 use Rattle.mime_view.proofs.GlobLemmas.GlobEntries.{entry_spends, entry_states, offers_either, offers_match, offers_other, text_short}
 use Rattle.mime_view.proofs.HitsLemmas.Gathering.{offers_unwanted}

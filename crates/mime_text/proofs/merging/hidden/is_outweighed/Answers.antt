@@ -1,6 +1,6 @@
 use Rattle.std.proofs.Common.{◌≡◌, ◌<◌, ◌∙◌, ap, ap₂, arith, inl, inr, map, nat_lt, not, refl, true, false}
 use Rattle.std.proofs.lemmas.Bool.{le-ltb}
-use Rattle.mime_base.specs.Kept.{class_of}
+use Rattle.mime_base.specs.Kept.Classes.{class_of}
 use Rattle.mime_base.specs.Kept.Hidden.{is_by_text, spellings}
 use Rattle.mime_base.specs.Matching.Folding.{compared, folded}
 use Rattle.mime_text.specs.Merging.Hiding.{least, weight_in}

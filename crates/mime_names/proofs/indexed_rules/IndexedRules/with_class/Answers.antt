@@ -2,7 +2,7 @@ use Rattle.std.proofs.Common.{rules}
 use Rattle.std.proofs.lemmas.List.Elements.{All-push}
 use Rattle.mime_names.specs.Rules.{IsIndexedRule}
 use Rattle.mime_names.proofs.RepeatLemmas.{repeats-more}
-use Rattle.mime_names.proofs.indexed_rules.IndexedRules.with.Goals as goal
+use Rattle.mime_names.proofs.indexed_rules.IndexedRules.with_class.Goals as goal
 
 pub invariant_of-result : goal.invariant_of-result
 invariant_of-result c =
