@@ -1,10 +1,10 @@
 -- An index over rules.
-use Rattle.std.specs.Prelude.{◌≡◌, ℕ, not, List, [], ◌∷◌, length, map, filter}
+use Rattle.std.specs.Prelude.{◌≡◌, ℕ, List, [], ◌∷◌, map}
 use Rattle.std.specs.Borrow.{Bor}
 use Rattle.std.specs.List.{All}
 use Rattle.mime_base.specs.declared.database.rule.GlobRule.{GlobRule}
 use Rattle.mime_names.specs.Keys.{IsTableOf}
-use Rattle.mime_names.specs.Rules.{AreRepeats, IsIndexedRule, of_texts, own_plain, plain}
+use Rattle.mime_names.specs.Rules.{AreRepeats, IsIndexedRule, count_general, own_plain, plain}
 use Rattle.mime_names.specs.declared.indexed_rule.IndexedRule.{IndexedRule}
 use Rattle.mime_names.specs.declared.keys.KeyTable.{KeyTable}
 use Rattle.mime_names.specs.declared.kept.KeptTypes.{KeptTypes}
@@ -15,7 +15,7 @@ pub record IsIndex (patterns : List ℕ) (rules : List IndexedRule) (table : Key
   pub own : All (IsIndexedRule patterns) rules
   pub repeated : AreRepeats patterns rules
   pub keyed : IsTableOf table patterns rules
-  pub counted : general ≡ length (filter (λ rule. not (of_texts rule.class)) rules)
+  pub counted : general ≡ count_general rules
 
 -- The rules of an index.
 pub record PlainIndex : Type 0 where

@@ -70,6 +70,10 @@ of_texts Literal = true
 of_texts Suffix = true
 of_texts Full = false
 
+-- how many rules are no text and no star before a text
+abbrev pub count_general : List IndexedRule → ℕ
+count_general rules = length (filter (λ rule. not (of_texts rule.class)) rules)
+
 -- whether a rule is one of a text
 abbrev pub is_text_rule : GlobRule → Bool
 is_text_rule rule = of_texts (class_of rule.pattern)

@@ -1,20 +1,19 @@
 //! An index over glob rules.
 
-ghost use Rattle.std.specs.Prelude.{◌≡◌, not, filter, length, IfOk};
+ghost use Rattle.std.specs.Prelude.{◌≡◌, IfOk};
 ghost use Rattle.mime_names.specs.Near.{is_mostly_general};
-ghost use Rattle.mime_names.specs.Rules.{of_texts};
 
 use crate::indexed_rule::IndexedRule;
 use crate::indexed_rules::IndexedRules;
 use crate::keys::{KeyTable, key_table};
-use mime_base::{Class, OutOfMemory};
+use mime_base::OutOfMemory;
 use std::alloc::Global;
 use std::marker::Model;
 
 /// An index over glob rules, whose types are lent. This project's own.
 ///
 /// For each rule it has some 96 bytes, and for each row of its tree 256 bytes: at most a row a rule, and those of the last byte of all
-/// patterns. The patterns themselves are lent, or stand in the text that it was given.
+/// patterns, with room for a row to three rules at once. The patterns themselves are lent, or stand in the text that it was given.
 #[derive(Drop)]
 pub struct NameIndex<'a> {
     /// The rules.
@@ -44,8 +43,7 @@ impl<'a> NameIndex<'a> {
         ensures { IfOk result (λ index. index ≡ record { given = rules.entry.given; own = rules.entry.own }) }
     {
         let IndexedRules { rules, patterns } = rules;
-        let table = key_table(alloc, &patterns, &rules)?;
-        let general = count_general(&rules);
+        let (table, general) = key_table(alloc, &patterns, &rules)?;
         Ok(NameIndex {
             rules,
             patterns,
@@ -62,17 +60,4 @@ impl<'a> NameIndex<'a> {
     {
         self.general > self.rules.len() / 2
     }
-}
-
-/// How many rules are no text and no star before a text.
-fn count_general(rules: &[IndexedRule<'_>]) -> usize
-    ensures { result ≡ length (filter (λ rule. not (of_texts rule.class)) rules.now) }
-{
-    let mut count: usize = 0;
-    for rule in rules {
-        if let Class::Full = rule.class {
-            count = count.saturating_add(1);
-        }
-    }
-    count
 }

@@ -154,10 +154,18 @@ fn repeats_last(
 }
 
 /// Whether two patterns are the same. Most of those that are as long end otherwise.
-// Never inlined: most rules differ in their rank from the one before them.
-#[inline(never)]
+#[inline(always)]
 fn is_same(left: &[u8], right: &[u8]) -> bool
     ensures { result ≡ true → left.now ≡ right.now }
 {
-    left.last() == right.last() && left == right
+    left.last() == right.last() && is_equal(left, right)
+}
+
+/// Whether two patterns that end alike are the same.
+// Never inlined: few rules end as the one before them does.
+#[inline(never)]
+fn is_equal(left: &[u8], right: &[u8]) -> bool
+    ensures { result ≡ true → left.now ≡ right.now }
+{
+    left == right
 }

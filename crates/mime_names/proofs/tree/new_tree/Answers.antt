@@ -6,4 +6,4 @@ pub returns : goal.returns
 returns c =
     tree-none record { starts = c.push.new.self; slots = c.extend_from_slice.new.self }
     (c.in_ok-push.ensures.items ∙ ap (λ (xs : List ℕ). xs ++ 0 ∷ []) c.in_ok-starts.ensures.items)
-    (c.in_ok-extend_from_slice.ensures.items ∙ ap (λ (xs : List ℕ). xs ++ replicate 64 0) c.new-slots.ensures.items)
+    (c.in_ok-extend_from_slice.ensures.items ∙ ap (λ (xs : List ℕ). xs ++ replicate 64 0) c.in_ok-slots.ensures.items)
