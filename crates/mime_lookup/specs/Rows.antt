@@ -75,17 +75,17 @@ fixed_are_types : list_all is_type_name fixed_kinds ≡ true
 unfolding is_type_name
 fixed_are_types = refl
 
--- a name of fewer than four bytes has the first mark
-mark_short : mark (codes "t/t") ≡ 0
+-- a name of fewer than eight bytes has the first mark
+mark_short : mark (codes "text/vt") ≡ 0
 unfolding mark
 mark_short = refl
 
--- `p`, `a`, `a` and `n` of ten bytes: 112, 97, 97 and 110
-mark_plain : mark (codes "text/plain") ≡ 8598
+-- `ext/plai` times 3, and `xt/plain`
+mark_plain : mark (codes "text/plain") ≡ 6178
 unfolding mark
 mark_plain = refl
 
--- the slash, `x`, `x` and `c` of eight bytes: 47, 120, 120 and 99
-mark_source : mark (codes "text/x-c") ≡ 12418
+-- eight bytes are its middle and its last
+mark_source : mark (codes "text/x-c") ≡ 15013
 unfolding mark
 mark_source = refl
