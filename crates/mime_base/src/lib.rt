@@ -48,7 +48,7 @@ pub use kept::twins::twins_of_visible;
 pub use kept::{Best, greatest_rank_is_preferred, kept_come_first, rank_of, rank_of_rule};
 pub use magic::Section;
 pub use magic::content::NotedContent;
-pub use magic::extent::extent;
+pub use magic::extent::{extent, line_extent};
 pub use magic::holding::{line_matches, some_line_matches};
 pub use magic::host::Host;
 pub use magic::matchlet::Matchlet;

@@ -1,6 +1,6 @@
 //! Lookup by trying every rule, line and pair of a database.
 
-ghost use Rattle.std.specs.Prelude.{◌≡◌, ◌+◌, ◌<◌, ◌≤◌, length, IfErr, IfOk, IfSome};
+ghost use Rattle.std.specs.Prelude.{◌≡◌, ◌+◌, ◌<◌, ◌≤◌, length, max, IfErr, IfOk, IfSome};
 ghost use Rattle.mime_base.specs.Database.{plain_database};
 ghost use Rattle.mime_base.specs.Magic.Holds.{first_magic};
 ghost use Rattle.mime_base.specs.Magic.{plain_sections};
@@ -184,5 +184,13 @@ pub fn front_limit(database: &Database) -> usize
     // Something is read.
     ensures some { 0 < result }
 {
-    u64::from(TEXTUAL_FRONT).max(extent(database)) as usize
+    limit_of(extent(database))
+}
+
+/// How much of a content is read at most, where lines look so far.
+pub fn limit_of(extent: u64) -> usize
+    // It is the greater of 128 bytes and the extent.
+    ensures { result ≡ max 128 extent }
+{
+    u64::from(TEXTUAL_FRONT).max(extent) as usize
 }

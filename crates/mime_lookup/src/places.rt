@@ -59,7 +59,7 @@ pub fn places_of<'a>(alloc: Global, pairs: &'a [Pair]) -> Result<Places<'a>, Out
         place -= 1;
         let pair = &pairs[place];
         let later = put_value(&mut first, pair.name.bytes(), place)?;
-        next.push(later)?;
+        next.push_reserved(later);
     }
     Ok(Places { pairs, first, next })
 }

@@ -32,6 +32,7 @@ fn sections_extent(sections: &[Section]) -> u64
 
 /// The extent of lines and their children.
 #[cycle(extent)]
+#[inline(never)]
 fn lines_extent(lines: &[Matchlet]) -> u64
     ensures { result ≡ forest_extent (forest_of (plain_matchlets lines.now)) }
 {
@@ -42,9 +43,12 @@ fn lines_extent(lines: &[Matchlet]) -> u64
     greatest
 }
 
-/// The extent of a line and its children.
+/// How far a line and its children look: the greatest sum of start, range and length of value.
+// Part of the loops over lines, most of which have no children.
 #[cycle(extent)]
-fn line_extent(line: &Matchlet) -> u64
+#[inline(always)]
+pub fn line_extent(line: &Matchlet) -> u64
+    // It is the greater of its own and that of its children.
     ensures { result ≡ max (line_extent (plain_matchlet line.now).own)
         (forest_extent (plain_matchlet line.now).children) }
 {

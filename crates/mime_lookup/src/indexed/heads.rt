@@ -49,7 +49,7 @@ pub fn heads_of<'a, S: MagicLines<L>, L: Drop>(
     for top in &tops {
         let head = source.head(&top.line);
         shortest = shortest.min(head.least_length());
-        lines.push(head)?;
+        lines.push_reserved(head);
     }
     let tables = tables_of(alloc, &lines)?;
     let pairs = pairs_of(alloc, &lines, &tables.others)?;

@@ -5,8 +5,8 @@ ghost use Rattle.mime_lookup.specs.Indexed.{IsPreparedMagic};
 
 use crate::indexed::heads::{Heads, heads_of};
 use crate::indexed::magic_line::Matchlets;
-use crate::indexed::top_line::tops_of;
-use crate::lists::front_limit;
+use crate::indexed::top_line::{TopLines, tops_of};
+use crate::lists::limit_of;
 use mime_base::{Database, Matchlet, OutOfMemory};
 use std::alloc::Global;
 
@@ -24,10 +24,10 @@ pub fn magic_of<'a>(alloc: Global, database: &'a Database) -> Result<PreparedMag
     // It is that of the database.
     ensures { IfOk result (IsPreparedMagic database.entry.now) }
 {
-    let tops = tops_of(alloc, &database.sections)?;
-    let heads = heads_of(alloc, Matchlets, tops)?;
+    let TopLines { lines, extent } = tops_of(alloc, &database.sections)?;
+    let heads = heads_of(alloc, Matchlets, lines)?;
     Ok(PreparedMagic {
         heads,
-        limit: front_limit(database),
+        limit: limit_of(extent),
     })
 }

@@ -100,35 +100,28 @@ fn slot_of(
     if head.range != 1 || head.size == 0 || line >= LAST {
         return Ok(None);
     }
-    let table = table_of(tables, noted, head.start)?;
+    let last = usize::from(noted[head.start as usize % REMAINDERS]);
+    if last < tables.places.len() && tables.places[last] == head.start {
+        return Ok(Some(slot_in(last, head.first)));
+    }
+    let table = other_table(tables, noted, head.start)?;
     if table == tables.places.len() {
         return Ok(None);
     }
-    Ok(Some(table * 256 + usize::from(head.first)))
+    Ok(Some(slot_in(table, head.first)))
 }
 
-/// The number of the table of a place, a new one if it has none and there are few; else the number of tables.
-#[inline]
-fn table_of(
-    tables: &mut Tables,
-    noted: &mut [u16; REMAINDERS],
-    place: u32,
-) -> Result<usize, OutOfMemory>
-    requires most { length tables.old.places.items ≤ 256 }
-    requires slots { length tables.old.firsts.items ≡ length tables.old.places.items * 256 }
-    ensures grow { OnOk result (GrowTables tables.old tables.new) }
-    ensures within { IfOk result (λ table. table ≤ length tables.new.places.items) }
-    ensures place { IfOk result (λ table. table < length tables.new.places.items
-        → slice_index tables.new.places.items table ≡ place) }
+/// The slot of a byte in a table.
+#[inline(always)]
+fn slot_in(table: usize, byte: u8) -> usize
+    requires { table < 256 }
+    ensures { result ≡ table * 256 + byte }
 {
-    let last = usize::from(noted[place as usize % REMAINDERS]);
-    if last < tables.places.len() && tables.places[last] == place {
-        return Ok(last);
-    }
-    other_table(tables, noted, place)
+    table * 256 + usize::from(byte)
 }
 
-/// The same where of the place's remainder no table is noted, or another place's.
+/// The number of the table of a place, of whose remainder none is noted, or another place's: a new one if it has none and there are
+/// few; else the number of tables.
 // Not inlined: it would take the registers of the loop that most lines go through without it.
 #[inline(never)]
 fn other_table(

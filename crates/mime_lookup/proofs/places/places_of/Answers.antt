@@ -12,7 +12,11 @@ loop-place-init c = record {
   so_far =
       rw c.in_ok-next.ensures.items
       (indexed-none c.args.pairs.now (length c.args.pairs.now) (value_in c.in_ok-first.first) refl c.in_ok-first.ensures.empty);
+  room = omega (arith, c.in_ok-next.ensures.len, c.in_ok-next.ensures.capacity);
 }
+
+pub push_reserved-requires : goal.push_reserved-requires
+push_reserved-requires c = omega (arith, c.loop-place.invariant.room, c.loop-place-test.true)
 
 pub loop-place-preserved : goal.loop-place-preserved
 loop-place-preserved c =
@@ -26,12 +30,13 @@ loop-place-preserved c =
       within = omega (arith, within);
       valid = c.in_ok-later.ensures.valid;
       so_far =
-          rw c.in_ok-push.ensures.items
+          rw c.push_reserved.ensures.items
           (indexed-more pairs low pair within c.index-pairs-place.is before (value_in c.put_value.new.map) c.loop-place.next.items
           c.in_ok-later.later (subst (λ n. IsIndexed pairs n before c.loop-place.next.items) here c.loop-place.invariant.so_far)
           (λ name.
           c.in_ok-later.ensures.updates name ∙ ap (λ bytes. update bytes_eq before bytes (Some low) name) c.bytes.ensures.text)
           (c.in_ok-later.ensures.old ∙ ap before c.bytes.ensures.text));
+      room = omega (arith, c.push_reserved.ensures.len, c.push_reserved.ensures.capacity, c.loop-place.invariant.room, c.loop-place-test.true);
     }
 
 pub returns-clause-indexed : goal.returns-clause-indexed

@@ -16,12 +16,14 @@ loop-top-preserved g c =
     map_more plain tops i top c.loop-top-test.true ∙ ap (λ t. map plain (take i tops) ++ plain t ∷ []) (sym c.top-item.is) in
     let before = c.loop-top.invariant in
     record {
-      headed = rw (c.in_ok-push.ensures.items, more)
+      headed = rw (c.push_reserved.ensures.items, more)
           (line_heads-more c.loop-top.lines.items (map plain (take i tops)) c.head-head.result (plain top) before.headed
           c.head-head.ensures);
-      none_shorter = rw c.in_ok-push.ensures.items
+      none_shorter = rw c.push_reserved.ensures.items
           (none_shorter-more c.loop-top.lines.items c.head-head.result c.loop-top.shortest _
           (omega (arith, c.min-shortest.ensures)) (omega (arith, c.min-shortest.ensures, c.least_length.ensures)) before.none_shorter);
+      many = omega (arith, c.push_reserved.ensures.len, before.many);
+      room = omega (arith, c.push_reserved.ensures.capacity, before.room);
     }
 
 pub returns-clause-found : goal.returns-clause-found
@@ -44,3 +46,6 @@ returns-clause-found g c =
             (line_heads-length c.loop-top.lines.items (map (plain_top plain) c.args.tops.items) headed) told.1,
       );
     }
+
+pub push_reserved-requires : goal.push_reserved-requires
+push_reserved-requires g c = omega (arith, c.loop-top.invariant.many, c.loop-top.invariant.room, c.loop-top-test.true)
