@@ -5148,9 +5148,17 @@ mimelook_database_icons:
 	pxor	%xmm0, %xmm0
 	movdqa	%xmm0, 32(%rsp)
 	movq	$0, 48(%rsp)
-	cmpq	$4, %rdx
-	jae	6f
-	xorl	%eax, %eax
+	cmpq	$8, %rdx
+	jb	6f
+	movq	%r13, %rax
+	shrq	%rax
+	movq	-4(%r12,%rax), %rax
+	leaq	(%rax,%rax,2), %rcx
+	addq	-8(%r12,%r13), %rcx
+	movabsq	$-4658895280553007687, %rax
+	imulq	%rcx, %rax
+	shrq	$49, %rax
+	andl	$-2, %eax
 	jmp	7f
 3:
 	movl	$14, %r14d
@@ -5182,28 +5190,7 @@ mimelook_database_icons:
 	movq	%rdx, %r13
 	jmp	10f
 6:
-	movq	%r13, %rax
-	shrq	%rax
-	movzbl	(%r12,%rax), %eax
-	movq	%r13, %rcx
-	shrq	$2, %rcx
-	negq	%rcx
-	addq	%r13, %rcx
-	decq	%rcx
-	movzbl	(%r12,%rcx), %ecx
-	movzbl	-3(%r12,%r13), %edx
-	movzbl	-1(%r12,%r13), %esi
-	leal	(%rax,%rax,8), %eax
-	addl	%ecx, %eax
-	leal	(%rax,%rax,8), %eax
-	addl	%edx, %eax
-	leal	(%rax,%rax,8), %ecx
-	movzbl	%r13b, %eax
-	leal	(%rax,%rax,2), %eax
-	addl	%esi, %eax
-	addl	%ecx, %eax
-	addl	%eax, %eax
-	andl	$32766, %eax
+	xorl	%eax, %eax
 7:
 	movq	176(%r14), %rcx
 	movzwl	(%rcx,%rax), %eax
@@ -5439,7 +5426,7 @@ mimelook_database_icons:
 	xorps	%xmm1, %xmm1
 	movb	$1, %al
 	xorl	%r14d, %r14d
-	xorl	%edi, %edi
+	xorl	%edx, %edx
 	jmp	42f
 32:
 	pxor	%xmm0, %xmm0
@@ -5493,7 +5480,7 @@ mimelook_database_icons:
 	cmpq	$48, %r13
 	jne	38f
 37:
-	xorl	%edi, %edi
+	xorl	%edx, %edx
 	jmp	40f
 38:
 	leaq	200(%rsp), %rdi
@@ -5504,7 +5491,7 @@ mimelook_database_icons:
 	callq	memset@PLT
 	movq	%r13, 248(%rsp)
 39:
-	movzbl	192(%rsp), %edi
+	movzbl	192(%rsp), %edx
 40:
 	movq	200(%rsp), %r14
 	movups	208(%rsp), %xmm1
@@ -5574,42 +5561,29 @@ mimelook_database_icons:
 	pxor	%xmm0, %xmm0
 	movdqa	%xmm0, 32(%rsp)
 	movq	$0, 48(%rsp)
-	cmpq	$4, %r13
-	jae	49f
-	xorl	%eax, %eax
-	jmp	50f
-49:
+	cmpq	$8, %r13
+	jb	49f
 	movq	%r13, %rax
 	shrq	%rax
-	movzbl	(%r12,%rax), %eax
-	movq	%r13, %rcx
-	shrq	$2, %rcx
-	negq	%rcx
-	addq	%r13, %rcx
-	decq	%rcx
-	movzbl	(%r12,%rcx), %ecx
-	movzbl	-3(%r12,%r13), %edx
-	movzbl	-1(%r12,%r13), %esi
-	leal	(%rax,%rax,8), %eax
-	addl	%ecx, %eax
-	leal	(%rax,%rax,8), %eax
-	addl	%edx, %eax
-	leal	(%rax,%rax,8), %ecx
-	movzbl	%r13b, %eax
-	leal	(%rax,%rax,2), %eax
-	addl	%esi, %eax
-	addl	%ecx, %eax
-	addl	%eax, %eax
-	andl	$32766, %eax
+	movq	-4(%r12,%rax), %rax
+	leaq	(%rax,%rax,2), %rcx
+	addq	-8(%r12,%r13), %rcx
+	movabsq	$-4658895280553007687, %rax
+	imulq	%rcx, %rax
+	shrq	$49, %rax
+	andl	$-2, %eax
+	jmp	50f
+49:
+	xorl	%eax, %eax
 50:
-	movq	280(%rsp), %rdx
-	movq	336(%rdx), %rcx
+	movq	280(%rsp), %rsi
+	movq	336(%rsi), %rcx
 	movzwl	(%rcx,%rax), %eax
-	cmpq	%rax, 368(%rdx)
-	movq	%rdi, 16(%rsp)
+	cmpq	%rax, 368(%rsi)
+	movq	%rdx, 16(%rsp)
 	movaps	%xmm1, 256(%rsp)
 	jbe	72f
-	movq	360(%rdx), %r15
+	movq	360(%rsi), %r15
 	shll	$3, %eax
 	leaq	(%rax,%rax,4), %rbp
 	cmpq	%r13, 8(%r15,%rbp)
@@ -5684,11 +5658,11 @@ mimelook_database_icons:
 	movaps	%xmm1, 288(%rsp)
 	movb	$1, %al
 	xorl	%r14d, %r14d
-	xorl	%edi, %edi
+	xorl	%edx, %edx
 	pxor	%xmm0, %xmm0
 	jmp	42b
 55:
-	movzbl	40(%rsp), %edi
+	movzbl	40(%rsp), %edx
 	movq	48(%rsp), %r14
 	movups	56(%rsp), %xmm1
 	movdqu	72(%rsp), %xmm2

@@ -681,36 +681,27 @@
 
 	.text
 	.p2align	4
-	.type	"mime_names::indexed_rules::is_same",@function
-"mime_names::indexed_rules::is_same":
-	movq	%rsi, %rax
-	orq	%rcx, %rax
-	sete	%al
-	testq	%rsi, %rsi
-	je	2f
-	testq	%rcx, %rcx
-	je	2f
-	xorl	%eax, %eax
+	.type	"mime_names::indexed_rules::is_equal",@function
+"mime_names::indexed_rules::is_equal":
 	cmpq	%rcx, %rsi
-	jne	2f
-	movzbl	-1(%rdx,%rcx), %ecx
-	cmpb	%cl, -1(%rdi,%rsi)
 	jne	2f
 	cmpq	$4, %rsi
 	jae	1f
+	testq	%rsi, %rsi
+	je	3f
 	movzbl	(%rdi), %eax
 	cmpb	(%rdx), %al
-	jne	3f
+	jne	4f
 	movq	%rsi, %rax
 	cmpq	$1, %rsi
-	je	4f
+	je	5f
 	movzbl	1(%rdi), %ecx
 	movl	$1, %eax
 	cmpb	1(%rdx), %cl
-	jne	4f
+	jne	5f
 	movq	%rsi, %rax
 	cmpq	$2, %rsi
-	je	4f
+	je	5f
 	movzbl	2(%rdi), %eax
 	cmpb	2(%rdx), %al
 	movl	$2, %eax
@@ -721,23 +712,25 @@
 1:
 	movl	(%rdi), %eax
 	cmpl	(%rdx), %eax
-	jne	5f
+	jne	2f
 	pushq	%rax
 	callq	"core::cmp::slices::groups_equal::<i8,31'core::cmp::numbers::U8PartialEq{}>"
 	addq	$8, %rsp
+	retq
 2:
+	xorl	%eax, %eax
 	retq
 3:
-	xorl	%eax, %eax
+	movb	$1, %al
+	retq
 4:
+	xorl	%eax, %eax
+5:
 	cmpq	%rsi, %rax
 	setae	%al
 	retq
-5:
-	xorl	%eax, %eax
-	retq
 6:
-	.size	"mime_names::indexed_rules::is_same", 6b-"mime_names::indexed_rules::is_same"
+	.size	"mime_names::indexed_rules::is_equal", 6b-"mime_names::indexed_rules::is_equal"
 
 	.text
 	.p2align	4
@@ -1508,11 +1501,8 @@
 	movq	%rdx, (%r15)
 	movq	160(%rsp), %rcx
 	movzbl	-1(%rcx,%r12), %ecx
-	movl	%ecx, %edx
-	andl	$31, %edx
-	shrl	%ecx
-	andl	$32, %ecx
-	orl	%edx, %ecx
+	leaq	.L2f9e9aa9650f(%rip), %rdx
+	movzbl	(%rcx,%rdx), %ecx
 	movq	48(%r14), %rdx
 	movq	72(%r14), %rsi
 	addq	(%rdx,%rbx,8), %rcx
@@ -2430,7 +2420,7 @@
 	pushq	%r12
 	pushq	%rbx
 	subq	$24, %rsp
-	movq	%rdi, %rbx
+	movq	%rdi, %r14
 	xorl	%ecx, %ecx
 	movq	%rdx, %rax
 	.p2align	4
@@ -2440,27 +2430,24 @@
 	subq	$1, %rax
 	jb	6f
 	movzbl	-1(%rsi,%r15), %ecx
-	movl	%ecx, %edi
-	andl	$31, %edi
-	shrl	%ecx
-	andl	$32, %ecx
-	orl	%edi, %ecx
-	movq	(%rbx), %rdi
-	movq	24(%rbx), %r8
+	leaq	.L2f9e9aa9650f(%rip), %rdi
+	movzbl	(%rcx,%rdi), %ecx
+	movq	(%r14), %rdi
+	movq	24(%r14), %r8
 	addq	(%rdi,%r13,8), %rcx
 	movl	(%r8,%rcx,4), %ecx
 	testq	%rcx, %rcx
 	jne	1b
 	jmp	6f
 2:
-	movq	32(%rbx), %rcx
-	movq	40(%rbx), %rax
+	movq	32(%r14), %rcx
+	movq	40(%r14), %rax
 	movq	16(%rsp), %rdx
 	movq	8(%rsp), %rsi
 	.p2align	4
 3:
 	leaq	64(%rcx), %rdi
-	movq	24(%rbx), %r8
+	movq	24(%r14), %r8
 	xorps	%xmm0, %xmm0
 	movups	%xmm0, 240(%r8,%rcx,4)
 	movups	%xmm0, 224(%r8,%rcx,4)
@@ -2478,50 +2465,47 @@
 	movups	%xmm0, 32(%r8,%rcx,4)
 	movups	%xmm0, 16(%r8,%rcx,4)
 	movups	%xmm0, (%r8,%rcx,4)
-	movq	%r8, 24(%rbx)
-	movq	%rdi, 32(%rbx)
-	movq	%rax, 40(%rbx)
-	movq	(%rbx), %rax
+	movq	%r8, 24(%r14)
+	movq	%rdi, 32(%r14)
+	movq	%rax, 40(%r14)
+	movq	(%r14), %rax
 	movq	%r12, (%rax,%r13,8)
-	movq	8(%rbx), %rax
+	movq	8(%r14), %rax
 4:
-	cmpq	%rax, 16(%rbx)
+	cmpq	%rax, 16(%r14)
 	je	7f
 5:
 	leaq	-1(%r15), %rcx
-	movl	%ebp, %edi
-	andl	$31, %edi
-	shrl	%ebp
-	andl	$32, %ebp
-	orl	%edi, %ebp
-	movq	(%rbx), %rdi
+	movq	(%r14), %rdi
 	movq	$0, (%rdi,%rax,8)
 	incq	%rax
-	movq	%rax, 8(%rbx)
+	movq	%rax, 8(%r14)
 	addq	%rbp, %r12
-	movq	24(%rbx), %rax
-	movl	%r14d, (%rax,%r12,4)
+	movq	24(%r14), %rax
+	movl	%ebx, (%rax,%r12,4)
 	incq	%r15
-	movq	%r14, %r13
+	movq	%rbx, %r13
 	cmpq	%rdx, %r15
 	movq	%rcx, %r15
 	jbe	8f
 6:
 	testq	%r15, %r15
 	je	9f
-	movq	8(%rbx), %r14
-	movq	%r14, %rax
+	movq	8(%r14), %rbx
+	movq	%rbx, %rax
 	shrq	$32, %rax
 	movb	$1, %al
 	jne	10f
-	movzbl	-1(%rsi,%r15), %ebp
-	movq	(%rbx), %rax
+	movzbl	-1(%rsi,%r15), %eax
+	leaq	.L2f9e9aa9650f(%rip), %rcx
+	movzbl	(%rax,%rcx), %ebp
+	movq	(%r14), %rax
 	movq	(%rax,%r13,8), %r12
-	movq	%r14, %rax
+	movq	%rbx, %rax
 	testq	%r12, %r12
 	jne	4b
-	movq	32(%rbx), %r12
-	movq	40(%rbx), %rax
+	movq	32(%r14), %r12
+	movq	40(%r14), %rax
 	movq	%rax, %rdi
 	subq	%r12, %rdi
 	movq	%r12, %rcx
@@ -2529,7 +2513,7 @@
 	ja	3b
 	movq	%rsi, 8(%rsp)
 	movq	%rdx, 16(%rsp)
-	leaq	24(%rbx), %rdi
+	leaq	24(%r14), %rdi
 	callq	"std_alloc::vec::Vec::grow_amortized::<#9e03e38e8c3bbb30>"
 	testb	%al, %al
 	jne	2b
@@ -2537,39 +2521,39 @@
 7:
 	movq	%rsi, 8(%rsp)
 	movq	%rdx, %r13
-	movq	%rbx, %rdi
+	movq	%r14, %rdi
 	callq	"std_alloc::vec::Vec::grow_amortized::<#5eba103c2f25e3e5>"
 	testb	%al, %al
 	je	19f
-	movq	8(%rbx), %rax
+	movq	8(%r14), %rax
 	movq	%r13, %rdx
 	movq	8(%rsp), %rsi
 	jmp	5b
 8:
 	testq	%rcx, %rcx
 	jne	15f
-	movq	%r14, %r13
+	movq	%rbx, %r13
 9:
-	movq	(%rbx), %rcx
-	movq	24(%rbx), %rdi
+	movq	(%r14), %rcx
+	movq	24(%r14), %rdi
 	movq	(%rcx,%r13,8), %r15
-	movl	(%rdi,%r15,4), %r14d
-	testq	%r14, %r14
+	movl	(%rdi,%r15,4), %ebx
+	testq	%rbx, %rbx
 	jne	15f
-	movq	8(%rbx), %r14
-	movq	%r14, %rcx
+	movq	8(%r14), %rbx
+	movq	%rbx, %rcx
 	shrq	$32, %rcx
 	movb	$1, %al
 	je	11f
 10:
-	xorl	%r14d, %r14d
+	xorl	%ebx, %ebx
 	jmp	16f
 11:
-	movq	%r14, %rcx
+	movq	%rbx, %rcx
 	testq	%r15, %r15
 	jne	13f
-	movq	32(%rbx), %r15
-	movq	40(%rbx), %rcx
+	movq	32(%r14), %r15
+	movq	40(%r14), %rcx
 	movq	%rcx, %rsi
 	subq	%r15, %rsi
 	movq	%r15, %rdx
@@ -2594,26 +2578,26 @@
 	movups	%xmm0, 32(%rdi,%rdx,4)
 	movups	%xmm0, 16(%rdi,%rdx,4)
 	movups	%xmm0, (%rdi,%rdx,4)
-	movq	%rdi, 24(%rbx)
-	movq	%rsi, 32(%rbx)
-	movq	%rcx, 40(%rbx)
-	movq	(%rbx), %rax
+	movq	%rdi, 24(%r14)
+	movq	%rsi, 32(%r14)
+	movq	%rcx, 40(%r14)
+	movq	(%r14), %rax
 	movq	%r15, (%rax,%r13,8)
-	movq	8(%rbx), %rcx
+	movq	8(%r14), %rcx
 13:
-	cmpq	%rcx, 16(%rbx)
+	cmpq	%rcx, 16(%r14)
 	je	17f
 14:
-	movq	(%rbx), %rax
+	movq	(%r14), %rax
 	movq	$0, (%rax,%rcx,8)
 	incq	%rcx
-	movq	%rcx, 8(%rbx)
-	movq	24(%rbx), %rax
-	movl	%r14d, (%rax,%r15,4)
+	movq	%rcx, 8(%r14)
+	movq	24(%r14), %rax
+	movl	%ebx, (%rax,%r15,4)
 15:
 	xorl	%eax, %eax
 16:
-	movq	%r14, %rdx
+	movq	%rbx, %rdx
 	addq	$24, %rsp
 	popq	%rbx
 	popq	%r12
@@ -2623,23 +2607,23 @@
 	popq	%rbp
 	retq
 17:
-	movq	%rbx, %rdi
+	movq	%r14, %rdi
 	callq	"std_alloc::vec::Vec::grow_amortized::<#5eba103c2f25e3e5>"
 	testb	%al, %al
 	je	19f
-	movq	8(%rbx), %rcx
+	movq	8(%r14), %rcx
 	jmp	14b
 18:
-	leaq	24(%rbx), %rdi
+	leaq	24(%r14), %rdi
 	callq	"std_alloc::vec::Vec::grow_amortized::<#9e03e38e8c3bbb30>"
 	testb	%al, %al
 	je	19f
-	movq	24(%rbx), %rdi
-	movq	32(%rbx), %rdx
-	movq	40(%rbx), %rcx
+	movq	24(%r14), %rdi
+	movq	32(%r14), %rdx
+	movq	40(%r14), %rcx
 	jmp	12b
 19:
-	xorl	%r14d, %r14d
+	xorl	%ebx, %ebx
 	movb	$1, %al
 	jmp	16b
 20:

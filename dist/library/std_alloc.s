@@ -759,7 +759,7 @@
 1:
 	callq	rattle_dealloc@PLT
 2:
-	addq	$104, %r13
+	addq	$112, %r13
 	decq	%r12
 	je	6f
 3:
@@ -1043,7 +1043,7 @@
 	jmp	2f
 	.p2align	4
 1:
-	addq	$96, %r13
+	addq	$104, %r13
 	decq	%r12
 	je	4f
 2:
@@ -1656,70 +1656,6 @@
 	retq
 5:
 	.size	"std_alloc::vec::Vec::grow_amortized::<#25095d740b27081c>", 5b-"std_alloc::vec::Vec::grow_amortized::<#25095d740b27081c>"
-
-	.section	.text.unlikely,"ax",@progbits
-	.p2align	4
-	.type	"std_alloc::vec::Vec::grow_amortized::<#2579a40e61290f43>",@function
-"std_alloc::vec::Vec::grow_amortized::<#2579a40e61290f43>":
-	movq	8(%rdi), %rsi
-	cmpq	$-1, %rsi
-	je	2f
-	pushq	%r14
-	pushq	%rbx
-	pushq	%rax
-	movq	16(%rdi), %rcx
-	cmpq	$4, %rsi
-	movl	$3, %ebx
-	cmovaeq	%rsi, %rbx
-	incq	%rbx
-	movq	%rcx, %rdx
-	shrq	$62, %rdx
-	leaq	(%rcx,%rcx), %rax
-	cmpq	%rax, %rbx
-	cmovaq	%rbx, %rax
-	testq	%rdx, %rdx
-	cmoveq	%rax, %rbx
-	movq	%rbx, %rdx
-	shrq	$59, %rdx
-	jne	4f
-	testq	%rcx, %rcx
-	je	3f
-	movq	%rdi, %r14
-	movq	(%rdi), %rdi
-	shlq	$4, %rsi
-	movq	%rbx, %rdx
-	shlq	$4, %rdx
-	movl	$4, %ecx
-	callq	rattle_realloc@PLT
-	testb	$1, %al
-	je	4f
-1:
-	movq	%rdx, (%r14)
-	movq	%rbx, 16(%r14)
-	movb	$1, %al
-	addq	$8, %rsp
-	popq	%rbx
-	popq	%r14
-	retq
-2:
-	xorl	%eax, %eax
-	retq
-3:
-	movq	%rdi, %r14
-	shlq	$4, %rax
-	movl	$4, %esi
-	movq	%rax, %rdi
-	callq	rattle_alloc@PLT
-	testb	$1, %al
-	jne	1b
-4:
-	xorl	%eax, %eax
-	addq	$8, %rsp
-	popq	%rbx
-	popq	%r14
-	retq
-5:
-	.size	"std_alloc::vec::Vec::grow_amortized::<#2579a40e61290f43>", 5b-"std_alloc::vec::Vec::grow_amortized::<#2579a40e61290f43>"
 
 	.section	.text.unlikely,"ax",@progbits
 	.p2align	4
@@ -2821,18 +2757,15 @@
 	cmovaq	%rbx, %rdx
 	testq	%rsi, %rsi
 	cmoveq	%rdx, %rbx
-	movabsq	$96076792050570581, %rsi
+	movabsq	$88686269585142075, %rsi
 	cmpq	%rsi, %rbx
 	ja	4f
 	testq	%rcx, %rcx
 	je	3f
 	movq	%rdi, %r14
 	movq	(%rdi), %rdi
-	shlq	$5, %rax
-	leaq	(%rax,%rax,2), %rsi
-	movq	%rbx, %rax
-	shlq	$5, %rax
-	leaq	(%rax,%rax,2), %rdx
+	imulq	$104, %rax, %rsi
+	imulq	$104, %rbx, %rdx
 	movl	$8, %ecx
 	callq	rattle_realloc@PLT
 	testb	$1, %al
@@ -2850,8 +2783,7 @@
 	retq
 3:
 	movq	%rdi, %r14
-	shlq	$5, %rdx
-	leaq	(%rdx,%rdx,2), %rdi
+	imulq	$104, %rdx, %rdi
 	movl	$8, %esi
 	callq	rattle_alloc@PLT
 	testb	$1, %al
@@ -3209,15 +3141,15 @@
 	cmovaq	%rbx, %rdx
 	testq	%rsi, %rsi
 	cmoveq	%rdx, %rbx
-	movabsq	$88686269585142075, %rsi
+	movabsq	$82351536043346212, %rsi
 	cmpq	%rsi, %rbx
 	ja	4f
 	testq	%rcx, %rcx
 	je	3f
 	movq	%rdi, %r14
 	movq	(%rdi), %rdi
-	imulq	$104, %rax, %rsi
-	imulq	$104, %rbx, %rdx
+	imulq	$112, %rax, %rsi
+	imulq	$112, %rbx, %rdx
 	movl	$8, %ecx
 	callq	rattle_realloc@PLT
 	testb	$1, %al
@@ -3235,7 +3167,7 @@
 	retq
 3:
 	movq	%rdi, %r14
-	imulq	$104, %rdx, %rdi
+	imulq	$112, %rdx, %rdi
 	movl	$8, %esi
 	callq	rattle_alloc@PLT
 	testb	$1, %al
@@ -4959,7 +4891,7 @@
 	leaq	(%rax,%r13), %rcx
 	cmpq	%rcx, %rax
 	jae	7f
-	imulq	$104, %rax, %rbp
+	imulq	$112, %rax, %rbp
 	addq	8(%rsp), %rbp
 	jmp	4f
 1:
@@ -4967,7 +4899,7 @@
 2:
 	callq	rattle_dealloc@PLT
 3:
-	addq	$104, %rbp
+	addq	$112, %rbp
 	decq	%r13
 	je	7f
 4:
@@ -5006,7 +4938,7 @@
 8:
 	callq	rattle_dealloc@PLT
 9:
-	addq	$104, %r13
+	addq	$112, %r13
 	decq	%r12
 	je	13f
 10:
@@ -5084,15 +5016,14 @@
 	leaq	(%rax,%r13), %rcx
 	cmpq	%rcx, %rax
 	jae	4f
-	leaq	(%rax,%rax,2), %rax
-	shlq	$5, %rax
+	imulq	$104, %rax, %rax
 	movq	8(%rsp), %rcx
 	leaq	(%rax,%rcx), %rbp
 	addq	$80, %rbp
 	jmp	2f
 	.p2align	4
 1:
-	addq	$96, %rbp
+	addq	$104, %rbp
 	decq	%r13
 	je	4f
 2:
@@ -5121,7 +5052,7 @@
 	jmp	6f
 	.p2align	4
 5:
-	addq	$96, %r13
+	addq	$104, %r13
 	decq	%r12
 	je	8f
 6:

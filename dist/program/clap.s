@@ -8699,7 +8699,7 @@
 	shll	$3, %r9d
 	leaq	".Lswitch.table.clap::builder::command::building::build_levels"(%rip), %r10
 	movq	(%r9,%r10), %r10
-	leaq	".Lswitch.table.clap::builder::command::building::build_levels.2664"(%rip), %r11
+	leaq	".Lswitch.table.clap::builder::command::building::build_levels.2665"(%rip), %r11
 	movq	(%r9,%r11), %r9
 	movq	$1, -83(%rdi,%rsi)
 	movq	%r10, -75(%rdi,%rsi)
@@ -34020,7 +34020,7 @@
 	shll	$3, %eax
 	leaq	".Lswitch.table.clap::parser::parse::Parser::check_value"(%rip), %rcx
 	movq	(%rax,%rcx), %rdx
-	leaq	".Lswitch.table.clap::parser::parse::Parser::check_value.2665"(%rip), %rcx
+	leaq	".Lswitch.table.clap::parser::parse::Parser::check_value.2666"(%rip), %rcx
 	movq	(%rax,%rcx), %rsi
 	cmpq	$0, 288(%rsp)
 	jne	240f

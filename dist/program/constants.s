@@ -367,6 +367,12 @@
 	.ascii	"inode/directory"
 	.size	.L2e403fc0c1a9, 15
 
+	.type	.L2f9e9aa9650f,@object
+	.section	.rodata,"a",@progbits
+.L2f9e9aa9650f:
+	.ascii	"\000\001\002\003\004\005\006\007\b\t\n\013\f\r\016\017\020\021\022\023\024\025\026\027\030\031\032\033\034\035\036\037\000\001\002\003\004\005\006\007\b\t\n\013\f\r\016\017\020\021\022\023\024\025\026\027\030\031\032\033\034\035\036\037 !\"#$%&'()*+,-./0123456789:;<=>? !\"#$%&'()*+,-./0123456789:;<=>?\000\001\002\003\004\005\006\007\b\t\n\013\f\r\016\017\020\021\022\023\024\025\026\027\030\031\032\033\034\035\036\037\000\001\002\003\004\005\006\007\b\t\n\013\f\r\016\017\020\021\022\023\024\025\026\027\030\031\032\033\034\035\036\037 !\"#$%&'()*+,-./0123456789:;<=>? !\"#$%&'()*+,-./0123456789:;<=>?"
+	.size	.L2f9e9aa9650f, 256
+
 	.type	.L32cfbbe30233,@object
 	.section	.rodata,"a",@progbits
 .L32cfbbe30233:
@@ -1990,12 +1996,12 @@
 	.quad	0,0,2,2,5,0,0,0,0
 	.size	".Lswitch.table.clap::builder::command::building::build_levels", 72
 
-	.type	".Lswitch.table.clap::builder::command::building::build_levels.2664",@object
+	.type	".Lswitch.table.clap::builder::command::building::build_levels.2665",@object
 	.section	.rodata,"a",@progbits
 	.p2align	3, 0x0
-".Lswitch.table.clap::builder::command::building::build_levels.2664":
+".Lswitch.table.clap::builder::command::building::build_levels.2665":
 	.quad	0,0,0,0,255,0,0,0,0
-	.size	".Lswitch.table.clap::builder::command::building::build_levels.2664", 72
+	.size	".Lswitch.table.clap::builder::command::building::build_levels.2665", 72
 
 	.type	".Lswitch.table.clap::parser::parse::Parser::check_value",@object
 	.section	.rodata.cst32,"aM",@progbits,32
@@ -2004,15 +2010,15 @@
 	.quad	38,29,38,38
 	.size	".Lswitch.table.clap::parser::parse::Parser::check_value", 32
 
-	.type	".Lswitch.table.clap::parser::parse::Parser::check_value.2665",@object
+	.type	".Lswitch.table.clap::parser::parse::Parser::check_value.2666",@object
 	.section	.data.rel.ro,"aw",@progbits
 	.p2align	3, 0x0
-".Lswitch.table.clap::parser::parse::Parser::check_value.2665":
+".Lswitch.table.clap::parser::parse::Parser::check_value.2666":
 	.quad	.Lc1b67e27bb9f
 	.quad	.Laa68302af712
 	.quad	.L6e2fce03fc0a
 	.quad	.L2cc55e3b3d11
-	.size	".Lswitch.table.clap::parser::parse::Parser::check_value.2665", 32
+	.size	".Lswitch.table.clap::parser::parse::Parser::check_value.2666", 32
 
 	.type	".Lswitch.table.mime_tool::desk::StreamsDesk::exists::<#6c31bac265adaac4>",@object
 	.section	.rodata,"a",@progbits
@@ -2020,11 +2026,11 @@
 	.asciz	"\000\000\000\000\000\000\000\000\000\000\000\000\000\000\000\000\000\000\000\000\000\000\000\000\000\000\000\000\000\000\000\000\000\000\000\000\000\000\001\000\000"
 	.size	".Lswitch.table.mime_tool::desk::StreamsDesk::exists::<#6c31bac265adaac4>", 42
 
-	.type	".Lswitch.table.mime_tool::desk::StreamsDesk::exists::<#6c31bac265adaac4>.2669",@object
+	.type	".Lswitch.table.mime_tool::desk::StreamsDesk::exists::<#6c31bac265adaac4>.2670",@object
 	.section	.rodata,"a",@progbits
-".Lswitch.table.mime_tool::desk::StreamsDesk::exists::<#6c31bac265adaac4>.2669":
+".Lswitch.table.mime_tool::desk::StreamsDesk::exists::<#6c31bac265adaac4>.2670":
 	.ascii	"\000\001\001\001\001\001\001\001\001\001\001\001\001\001\001\001\001\001\001\001\001\001\001\001\001\001\001\001\001\001\001\001\001\001\001\001\001\001\000\001\001\001"
-	.size	".Lswitch.table.mime_tool::desk::StreamsDesk::exists::<#6c31bac265adaac4>.2669", 42
+	.size	".Lswitch.table.mime_tool::desk::StreamsDesk::exists::<#6c31bac265adaac4>.2670", 42
 
 	.type	".Lswitch.table.mime_tool::explain::explain_lists::<#2e1b2a3647f851f7>",@object
 	.section	.rodata.cst32,"aM",@progbits,32
@@ -2033,15 +2039,15 @@
 	.quad	10,13,10,13
 	.size	".Lswitch.table.mime_tool::explain::explain_lists::<#2e1b2a3647f851f7>", 32
 
-	.type	".Lswitch.table.mime_tool::explain::explain_lists::<#2e1b2a3647f851f7>.2672",@object
+	.type	".Lswitch.table.mime_tool::explain::explain_lists::<#2e1b2a3647f851f7>.2673",@object
 	.section	.data.rel.ro,"aw",@progbits
 	.p2align	3, 0x0
-".Lswitch.table.mime_tool::explain::explain_lists::<#2e1b2a3647f851f7>.2672":
+".Lswitch.table.mime_tool::explain::explain_lists::<#2e1b2a3647f851f7>.2673":
 	.quad	.L5830d5e096db
 	.quad	.Lbf390fbfa02b
 	.quad	.L6771e55d57d5
 	.quad	.L1fd369fd7617
-	.size	".Lswitch.table.mime_tool::explain::explain_lists::<#2e1b2a3647f851f7>.2672", 32
+	.size	".Lswitch.table.mime_tool::explain::explain_lists::<#2e1b2a3647f851f7>.2673", 32
 
 	.type	".Lswitch.table.mime_tool::line::print_line::<#2e1b2a3647f851f7>",@object
 	.section	.rodata,"a",@progbits
@@ -2054,29 +2060,29 @@
 	.quad	17
 	.size	".Lswitch.table.mime_tool::line::print_line::<#2e1b2a3647f851f7>", 48
 
-	.type	".Lswitch.table.mime_tool::line::print_line::<#2e1b2a3647f851f7>.2671",@object
+	.type	".Lswitch.table.mime_tool::line::print_line::<#2e1b2a3647f851f7>.2672",@object
 	.section	.data.rel.ro,"aw",@progbits
 	.p2align	3, 0x0
-".Lswitch.table.mime_tool::line::print_line::<#2e1b2a3647f851f7>.2671":
+".Lswitch.table.mime_tool::line::print_line::<#2e1b2a3647f851f7>.2672":
 	.quad	.L1fba8e2a4222
 	.quad	.L1f2087385df6
 	.zero	8
 	.quad	.L2e403fc0c1a9
 	.zero	8
 	.quad	.Lbf28a0ac4edc
-	.size	".Lswitch.table.mime_tool::line::print_line::<#2e1b2a3647f851f7>.2671", 48
-
-	.type	".Lswitch.table.mime_tool::program::answer::<#2d382ade8d012bfb>.2667",@object
-	.section	.rodata,"a",@progbits
-	.p2align	3, 0x0
-".Lswitch.table.mime_tool::program::answer::<#2d382ade8d012bfb>.2667":
-	.quad	19,20,23,21,21,18,18,18,26
-	.size	".Lswitch.table.mime_tool::program::answer::<#2d382ade8d012bfb>.2667", 72
+	.size	".Lswitch.table.mime_tool::line::print_line::<#2e1b2a3647f851f7>.2672", 48
 
 	.type	".Lswitch.table.mime_tool::program::answer::<#2d382ade8d012bfb>.2668",@object
-	.section	.data.rel.ro,"aw",@progbits
+	.section	.rodata,"a",@progbits
 	.p2align	3, 0x0
 ".Lswitch.table.mime_tool::program::answer::<#2d382ade8d012bfb>.2668":
+	.quad	19,20,23,21,21,18,18,18,26
+	.size	".Lswitch.table.mime_tool::program::answer::<#2d382ade8d012bfb>.2668", 72
+
+	.type	".Lswitch.table.mime_tool::program::answer::<#2d382ade8d012bfb>.2669",@object
+	.section	.data.rel.ro,"aw",@progbits
+	.p2align	3, 0x0
+".Lswitch.table.mime_tool::program::answer::<#2d382ade8d012bfb>.2669":
 	.quad	.L578e4c20615e
 	.quad	.L62256f76d65b
 	.quad	.Lb4d0460a73df
@@ -2086,10 +2092,10 @@
 	.quad	.L28bf7eaf625e
 	.quad	.La3c42d80fcd3
 	.quad	.Lf638752c7fdf
-	.size	".Lswitch.table.mime_tool::program::answer::<#2d382ade8d012bfb>.2668", 72
+	.size	".Lswitch.table.mime_tool::program::answer::<#2d382ade8d012bfb>.2669", 72
 
-	.type	".Lswitch.table.mime_tool::system::SystemFilesFiles::whole::<#a1ba6ce099ef6b20>.2670",@object
+	.type	".Lswitch.table.mime_tool::system::SystemFilesFiles::whole::<#a1ba6ce099ef6b20>.2671",@object
 	.section	.rodata,"a",@progbits
-".Lswitch.table.mime_tool::system::SystemFilesFiles::whole::<#a1ba6ce099ef6b20>.2670":
+".Lswitch.table.mime_tool::system::SystemFilesFiles::whole::<#a1ba6ce099ef6b20>.2671":
 	.ascii	"\001\001\001\001\001\001\001\001\001\001\001\001\001\001\001\000\001\001\001\001\001\001\001\001\001\001\001\001\001\001\001\001\001\001\001\001\001\001\002\001\001\001"
-	.size	".Lswitch.table.mime_tool::system::SystemFilesFiles::whole::<#a1ba6ce099ef6b20>.2670", 42
+	.size	".Lswitch.table.mime_tool::system::SystemFilesFiles::whole::<#a1ba6ce099ef6b20>.2671", 42

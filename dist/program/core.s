@@ -5102,12 +5102,13 @@
 	.p2align	4
 	.type	"core::slice::edits::mirror::<35'mime_base::database::rule::GlobRule>",@function
 "core::slice::edits::mirror::<35'mime_base::database::rule::GlobRule>":
-	leaq	(%rdx,%rdx,2), %rax
-	shlq	$5, %rax
+	imulq	$104, %rdx, %rax
 	addq	%rsi, %rax
-	addq	$-96, %rax
+	addq	$-104, %rax
 	.p2align	4
 1:
+	movq	96(%rdi), %rcx
+	movq	%rcx, -8(%rsp)
 	movups	80(%rdi), %xmm0
 	movaps	%xmm0, -24(%rsp)
 	movups	64(%rdi), %xmm0
@@ -5120,18 +5121,22 @@
 	movaps	%xmm2, -72(%rsp)
 	movaps	%xmm1, -88(%rsp)
 	movaps	%xmm0, -104(%rsp)
-	movups	64(%rax), %xmm0
-	movups	80(%rax), %xmm1
+	movq	96(%rax), %rcx
+	movups	80(%rax), %xmm0
+	movups	64(%rax), %xmm1
 	movups	(%rax), %xmm2
 	movups	16(%rax), %xmm3
 	movups	32(%rax), %xmm4
 	movups	48(%rax), %xmm5
 	movups	%xmm2, (%rdi)
-	movups	%xmm1, 80(%rdi)
-	movups	%xmm0, 64(%rdi)
-	movups	%xmm5, 48(%rdi)
-	movups	%xmm4, 32(%rdi)
 	movups	%xmm3, 16(%rdi)
+	movups	%xmm4, 32(%rdi)
+	movups	%xmm5, 48(%rdi)
+	movups	%xmm1, 64(%rdi)
+	movups	%xmm0, 80(%rdi)
+	movq	%rcx, 96(%rdi)
+	movq	-8(%rsp), %rcx
+	movq	%rcx, 96(%rax)
 	movaps	-24(%rsp), %xmm0
 	movups	%xmm0, 80(%rax)
 	movaps	-40(%rsp), %xmm0
@@ -5144,8 +5149,8 @@
 	movups	%xmm2, 32(%rax)
 	movups	%xmm1, 16(%rax)
 	movups	%xmm0, (%rax)
-	addq	$96, %rdi
-	addq	$-96, %rax
+	addq	$104, %rdi
+	addq	$-104, %rax
 	decq	%rdx
 	jne	1b
 	retq
@@ -12828,7 +12833,7 @@
 	leaq	80(%rdi), %r11
 15:
 	movzbl	(%rsi), %r9d
-	movzbl	88(%rsi), %r8d
+	movzbl	96(%rsi), %r8d
 	movq	(%r11), %rsi
 	testq	%rsi, %rsi
 	je	19f
@@ -12905,7 +12910,7 @@
 	orl	%r8d, %eax
 	movzbl	(%rdi), %edx
 	orl	%ecx, %edx
-	movzbl	88(%rdi), %ecx
+	movzbl	96(%rdi), %ecx
 	shll	$17, %edx
 	movzwl	%si, %esi
 	leal	(%rdx,%rsi,2), %edx
@@ -26076,7 +26081,7 @@
 	leaq	72(%rax), %rsi
 19:
 	movzbl	(%r8), %r13d
-	movzbl	88(%r8), %ebp
+	movzbl	96(%r8), %ebp
 	movq	(%rsi), %r12
 	testq	%r12, %r12
 	je	23f
@@ -26155,7 +26160,7 @@
 	orl	%ebp, %esi
 	movzbl	(%rax), %edi
 	orl	%edx, %edi
-	movzbl	88(%rax), %edx
+	movzbl	96(%rax), %edx
 	shll	$17, %edi
 	movzwl	%r12w, %r9d
 	leal	(%rdi,%r9,2), %edi

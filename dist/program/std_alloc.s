@@ -9188,7 +9188,7 @@
 	jmp	2f
 	.p2align	4
 1:
-	addq	$96, %r13
+	addq	$104, %r13
 	decq	%r12
 	je	4f
 2:
@@ -9256,7 +9256,7 @@
 1:
 	callq	rattle_dealloc@PLT
 2:
-	addq	$104, %r13
+	addq	$112, %r13
 	decq	%r12
 	je	6f
 3:
@@ -10238,70 +10238,6 @@
 	retq
 5:
 	.size	"std_alloc::vec::Vec::grow_amortized::<#25095d740b27081c>", 5b-"std_alloc::vec::Vec::grow_amortized::<#25095d740b27081c>"
-
-	.section	.text.unlikely,"ax",@progbits
-	.p2align	4
-	.type	"std_alloc::vec::Vec::grow_amortized::<#2579a40e61290f43>",@function
-"std_alloc::vec::Vec::grow_amortized::<#2579a40e61290f43>":
-	movq	8(%rdi), %rsi
-	cmpq	$-1, %rsi
-	je	2f
-	pushq	%r14
-	pushq	%rbx
-	pushq	%rax
-	movq	16(%rdi), %rcx
-	cmpq	$4, %rsi
-	movl	$3, %ebx
-	cmovaeq	%rsi, %rbx
-	incq	%rbx
-	movq	%rcx, %rdx
-	shrq	$62, %rdx
-	leaq	(%rcx,%rcx), %rax
-	cmpq	%rax, %rbx
-	cmovaq	%rbx, %rax
-	testq	%rdx, %rdx
-	cmoveq	%rax, %rbx
-	movq	%rbx, %rdx
-	shrq	$59, %rdx
-	jne	4f
-	testq	%rcx, %rcx
-	je	3f
-	movq	%rdi, %r14
-	movq	(%rdi), %rdi
-	shlq	$4, %rsi
-	movq	%rbx, %rdx
-	shlq	$4, %rdx
-	movl	$4, %ecx
-	callq	rattle_realloc@PLT
-	testb	$1, %al
-	je	4f
-1:
-	movq	%rdx, (%r14)
-	movq	%rbx, 16(%r14)
-	movb	$1, %al
-	addq	$8, %rsp
-	popq	%rbx
-	popq	%r14
-	retq
-2:
-	xorl	%eax, %eax
-	retq
-3:
-	movq	%rdi, %r14
-	shlq	$4, %rax
-	movl	$4, %esi
-	movq	%rax, %rdi
-	callq	rattle_alloc@PLT
-	testb	$1, %al
-	jne	1b
-4:
-	xorl	%eax, %eax
-	addq	$8, %rsp
-	popq	%rbx
-	popq	%r14
-	retq
-5:
-	.size	"std_alloc::vec::Vec::grow_amortized::<#2579a40e61290f43>", 5b-"std_alloc::vec::Vec::grow_amortized::<#2579a40e61290f43>"
 
 	.section	.text.unlikely,"ax",@progbits
 	.p2align	4
@@ -11464,18 +11400,15 @@
 	cmovaq	%rbx, %rdx
 	testq	%rsi, %rsi
 	cmoveq	%rdx, %rbx
-	movabsq	$96076792050570581, %rsi
+	movabsq	$88686269585142075, %rsi
 	cmpq	%rsi, %rbx
 	ja	4f
 	testq	%rcx, %rcx
 	je	3f
 	movq	%rdi, %r14
 	movq	(%rdi), %rdi
-	shlq	$5, %rax
-	leaq	(%rax,%rax,2), %rsi
-	movq	%rbx, %rax
-	shlq	$5, %rax
-	leaq	(%rax,%rax,2), %rdx
+	imulq	$104, %rax, %rsi
+	imulq	$104, %rbx, %rdx
 	movl	$8, %ecx
 	callq	rattle_realloc@PLT
 	testb	$1, %al
@@ -11493,8 +11426,7 @@
 	retq
 3:
 	movq	%rdi, %r14
-	shlq	$5, %rdx
-	leaq	(%rdx,%rdx,2), %rdi
+	imulq	$104, %rdx, %rdi
 	movl	$8, %esi
 	callq	rattle_alloc@PLT
 	testb	$1, %al
@@ -11725,68 +11657,6 @@
 	cmovaq	%rbx, %rdx
 	testq	%rsi, %rsi
 	cmoveq	%rdx, %rbx
-	movabsq	$88686269585142075, %rsi
-	cmpq	%rsi, %rbx
-	ja	4f
-	testq	%rcx, %rcx
-	je	3f
-	movq	%rdi, %r14
-	movq	(%rdi), %rdi
-	imulq	$104, %rax, %rsi
-	imulq	$104, %rbx, %rdx
-	movl	$8, %ecx
-	callq	rattle_realloc@PLT
-	testb	$1, %al
-	je	4f
-1:
-	movq	%rdx, (%r14)
-	movq	%rbx, 16(%r14)
-	movb	$1, %al
-	addq	$8, %rsp
-	popq	%rbx
-	popq	%r14
-	retq
-2:
-	xorl	%eax, %eax
-	retq
-3:
-	movq	%rdi, %r14
-	imulq	$104, %rdx, %rdi
-	movl	$8, %esi
-	callq	rattle_alloc@PLT
-	testb	$1, %al
-	jne	1b
-4:
-	xorl	%eax, %eax
-	addq	$8, %rsp
-	popq	%rbx
-	popq	%r14
-	retq
-5:
-	.size	"std_alloc::vec::Vec::grow_amortized::<#b0aa9f4bede84b75>", 5b-"std_alloc::vec::Vec::grow_amortized::<#b0aa9f4bede84b75>"
-
-	.section	.text.unlikely,"ax",@progbits
-	.p2align	4
-	.type	"std_alloc::vec::Vec::grow_amortized::<#b5570d1ab3d10a20>",@function
-"std_alloc::vec::Vec::grow_amortized::<#b5570d1ab3d10a20>":
-	movq	8(%rdi), %rax
-	cmpq	$-1, %rax
-	je	2f
-	pushq	%r14
-	pushq	%rbx
-	pushq	%rax
-	movq	16(%rdi), %rcx
-	cmpq	$4, %rax
-	movl	$3, %ebx
-	cmovaeq	%rax, %rbx
-	incq	%rbx
-	movq	%rcx, %rsi
-	shrq	$62, %rsi
-	leaq	(%rcx,%rcx), %rdx
-	cmpq	%rdx, %rbx
-	cmovaq	%rbx, %rdx
-	testq	%rsi, %rsi
-	cmoveq	%rdx, %rbx
 	movabsq	$82351536043346212, %rsi
 	cmpq	%rsi, %rbx
 	ja	4f
@@ -11825,7 +11695,7 @@
 	popq	%r14
 	retq
 5:
-	.size	"std_alloc::vec::Vec::grow_amortized::<#b5570d1ab3d10a20>", 5b-"std_alloc::vec::Vec::grow_amortized::<#b5570d1ab3d10a20>"
+	.size	"std_alloc::vec::Vec::grow_amortized::<#b0aa9f4bede84b75>", 5b-"std_alloc::vec::Vec::grow_amortized::<#b0aa9f4bede84b75>"
 
 	.section	.text.unlikely,"ax",@progbits
 	.p2align	4
@@ -12073,6 +11943,72 @@
 	retq
 5:
 	.size	"std_alloc::vec::Vec::grow_amortized::<#f7f783c9c62e5f91>", 5b-"std_alloc::vec::Vec::grow_amortized::<#f7f783c9c62e5f91>"
+
+	.section	.text.unlikely,"ax",@progbits
+	.p2align	4
+	.type	"std_alloc::vec::Vec::grow_amortized::<#fae293e493dc3251>",@function
+"std_alloc::vec::Vec::grow_amortized::<#fae293e493dc3251>":
+	movq	8(%rdi), %rax
+	cmpq	$-1, %rax
+	je	2f
+	pushq	%r14
+	pushq	%rbx
+	pushq	%rax
+	movq	16(%rdi), %rcx
+	cmpq	$4, %rax
+	movl	$3, %ebx
+	cmovaeq	%rax, %rbx
+	incq	%rbx
+	movq	%rcx, %rsi
+	shrq	$62, %rsi
+	leaq	(%rcx,%rcx), %rdx
+	cmpq	%rdx, %rbx
+	cmovaq	%rbx, %rdx
+	testq	%rsi, %rsi
+	cmoveq	%rdx, %rbx
+	movabsq	$96076792050570581, %rsi
+	cmpq	%rsi, %rbx
+	ja	4f
+	testq	%rcx, %rcx
+	je	3f
+	movq	%rdi, %r14
+	movq	(%rdi), %rdi
+	shlq	$5, %rax
+	leaq	(%rax,%rax,2), %rsi
+	movq	%rbx, %rax
+	shlq	$5, %rax
+	leaq	(%rax,%rax,2), %rdx
+	movl	$8, %ecx
+	callq	rattle_realloc@PLT
+	testb	$1, %al
+	je	4f
+1:
+	movq	%rdx, (%r14)
+	movq	%rbx, 16(%r14)
+	movb	$1, %al
+	addq	$8, %rsp
+	popq	%rbx
+	popq	%r14
+	retq
+2:
+	xorl	%eax, %eax
+	retq
+3:
+	movq	%rdi, %r14
+	shlq	$5, %rdx
+	leaq	(%rdx,%rdx,2), %rdi
+	movl	$8, %esi
+	callq	rattle_alloc@PLT
+	testb	$1, %al
+	jne	1b
+4:
+	xorl	%eax, %eax
+	addq	$8, %rsp
+	popq	%rbx
+	popq	%r14
+	retq
+5:
+	.size	"std_alloc::vec::Vec::grow_amortized::<#fae293e493dc3251>", 5b-"std_alloc::vec::Vec::grow_amortized::<#fae293e493dc3251>"
 
 	.section	.rodata.cst16,"aM",@progbits,16
 	.p2align	4, 0x0
@@ -14224,7 +14160,7 @@
 	leaq	(%rax,%r13), %rcx
 	cmpq	%rcx, %rax
 	jae	7f
-	imulq	$104, %rax, %rbp
+	imulq	$112, %rax, %rbp
 	addq	8(%rsp), %rbp
 	jmp	4f
 1:
@@ -14232,7 +14168,7 @@
 2:
 	callq	rattle_dealloc@PLT
 3:
-	addq	$104, %rbp
+	addq	$112, %rbp
 	decq	%r13
 	je	7f
 4:
@@ -14271,7 +14207,7 @@
 8:
 	callq	rattle_dealloc@PLT
 9:
-	addq	$104, %r13
+	addq	$112, %r13
 	decq	%r12
 	je	13f
 10:
@@ -14349,15 +14285,14 @@
 	leaq	(%rax,%r13), %rcx
 	cmpq	%rcx, %rax
 	jae	4f
-	leaq	(%rax,%rax,2), %rax
-	shlq	$5, %rax
+	imulq	$104, %rax, %rax
 	movq	8(%rsp), %rcx
 	leaq	(%rax,%rcx), %rbp
 	addq	$80, %rbp
 	jmp	2f
 	.p2align	4
 1:
-	addq	$96, %rbp
+	addq	$104, %rbp
 	decq	%r13
 	je	4f
 2:
@@ -14386,7 +14321,7 @@
 	jmp	6f
 	.p2align	4
 5:
-	addq	$96, %r13
+	addq	$104, %r13
 	decq	%r12
 	je	8f
 6:
