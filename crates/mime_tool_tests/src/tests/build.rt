@@ -25,7 +25,7 @@ static DATA: [&str; 12] = [
     "/e/mime/generic-icons",
 ];
 
-const ENTRIES: &[(&str, Entry<'static>)] = &[
+static ENTRIES: &[(&str, Entry<'static>)] = &[
     ("/e/mime/globs2", Entry::Bytes(b"60:t/b:*.b\n")),
     ("/d/mime/globs2", Entry::Bytes(b"50:t/a:*.a\nnothing\n")),
     ("/c", Entry::Bytes(b"old")),

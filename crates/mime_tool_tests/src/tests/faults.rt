@@ -8,7 +8,7 @@ use std::alloc::Global;
 use std::process::Abort;
 use std::test::Fail;
 
-const ENTRIES: &[(&str, Entry<'static>)] = &[(
+static ENTRIES: &[(&str, Entry<'static>)] = &[(
     "/s/mime/globs2",
     Entry::Bytes(b"50:t/a:*.a\nnothing\n"),
 )];

@@ -23,7 +23,7 @@ static LINES: [&str; 3] = ["x.a: t/a\n", "y: text/plain\n", "z.a: t/a\n"];
 
 static WORDS: [&str; 6] = ["plain", "-d", "/s", "x.a", "y", "z.a"];
 
-const ENTRIES: &[(&str, Entry<'static>)] = &[
+static ENTRIES: &[(&str, Entry<'static>)] = &[
     ("/s/mime/globs2", Entry::Bytes(b"50:t/a:*.a\n")),
     ("x.a", Entry::Bytes(b"hello")),
     ("y", Entry::Bytes(b"hello")),

@@ -13,7 +13,7 @@ struct Row {
     err: &'static str,
 }
 
-const ENTRIES: &[(&str, Entry<'static>)] = &[
+static ENTRIES: &[(&str, Entry<'static>)] = &[
     ("/s/mime/globs2", Entry::Bytes(b"50:t/a:*.a\n")),
     ("folder.a", Entry::Folder),
     ("terminal", Entry::Special(Inode::CharDevice)),

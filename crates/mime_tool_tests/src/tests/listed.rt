@@ -20,7 +20,7 @@ struct Row {
 
 const GLOBS: (&str, Entry<'static>) = ("/s/mime/globs2", Entry::Bytes(b"50:t/a:*.a\n50:t/b:*.b\n"));
 
-const ENTRIES: &[(&str, Entry<'static>)] = &[
+static ENTRIES: &[(&str, Entry<'static>)] = &[
     GLOBS,
     ("text", Entry::Bytes(b"hello\n")),
     ("-", Entry::Bytes(b"x.a")),

@@ -26,7 +26,7 @@ const ROW: Row = Row {
 };
 
 // The first directory is preferred. The third has a malformed line, and the last two stop what is asked.
-const ENTRIES: &[(&str, Entry<'static>)] = &[
+static ENTRIES: &[(&str, Entry<'static>)] = &[
     ("/a/mime/icons", Entry::Bytes(b"t/g:first\n")),
     ("/a/mime/aliases", Entry::Bytes(b"t/h t/g\nt/top d/top\n")),
     (

@@ -26,7 +26,7 @@ const ROW: Row = Row {
     err: "",
 };
 
-const ENTRIES: &[(&str, Entry<'static>)] = &[
+static ENTRIES: &[(&str, Entry<'static>)] = &[
     ("/s/mime/globs2", Entry::Bytes(b"50:t/m:mk\n50:t/g:*.gz\n")),
     ("/s/mime/aliases", Entry::Bytes(b"t/h t/g\n")),
     ("/s/mime/subclasses", Entry::Bytes(b"t/g t/m\n")),

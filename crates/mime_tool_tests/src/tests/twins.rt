@@ -9,7 +9,7 @@ use std::test::Fail;
 const GLOBS2: &[u8] = b"50:application/x-core:core:cs\n50:application/x-core:core\n\
 50:text/x-genie:*.gs:cs\n50:text/x-genie:*.gs\n50:text/x-log:*.log\n";
 
-const ENTRIES: &[(&str, Entry<'static>)] = &[
+static ENTRIES: &[(&str, Entry<'static>)] = &[
     ("/s/mime/globs2", Entry::Bytes(GLOBS2)),
     // What makes a twin of a rule may be another directory's.
     ("/cs/mime/globs2", Entry::Bytes(b"50:t/a:a:cs\n")),

@@ -16,7 +16,7 @@ const C_FILES: &[u8] =
 
 const MAGIC: &[u8] = b"MIME-Magic\0\n[50:text/x-csrc]\n>0=\0\x02/*\n";
 
-const ENTRIES: &[(&str, Entry<'static>)] = &[
+static ENTRIES: &[(&str, Entry<'static>)] = &[
     ("/c/mime/globs2", Entry::Bytes(C_FILES)),
     ("/c/mime/magic", Entry::Bytes(MAGIC)),
     ("main.C", Entry::Bytes(b"/* x")),

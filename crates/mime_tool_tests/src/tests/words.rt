@@ -17,7 +17,7 @@ struct Row {
     err: &'static [u8],
 }
 
-const ENTRIES: &[(&str, Entry<'static>)] = &[
+static ENTRIES: &[(&str, Entry<'static>)] = &[
     ("/s/mime/globs2", Entry::Bytes(b"50:t/a:*.a\n")),
     ("x.a", Entry::Bytes(b"hello")),
 ];

@@ -222,7 +222,7 @@ fn checks_a_line_that_is_its_own_child(rt: HostRuntime) -> Result<(), Fail> {
     is_answered_over(&rt, rt.alloc(), &row, &own_child())
 }
 
-const ENTRIES: &[(&str, Entry<'static>)] = &[
+static ENTRIES: &[(&str, Entry<'static>)] = &[
     (
         "/s/mime/globs2",
         Entry::Bytes(

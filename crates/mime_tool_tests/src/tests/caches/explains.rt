@@ -5,7 +5,7 @@ use crate::Entry;
 use crate::tests::ran::{Said, says_over};
 use std::test::Fail;
 
-const ENTRIES: &[(&str, Entry<'static>)] = &[
+static ENTRIES: &[(&str, Entry<'static>)] = &[
     (
         "/s/mime/globs2",
         Entry::Bytes(

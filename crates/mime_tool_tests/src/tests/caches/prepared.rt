@@ -10,7 +10,7 @@ use std::process::Abort;
 use std::test::Fail;
 
 /// Two rules that stand in a glob list, and a section beside them.
-const GENERAL: [DirTexts<'static>; 1] = [DirTexts {
+static GENERAL: [DirTexts<'static>; 1] = [DirTexts {
     globs2: b"50:t/m:m*\n60:t/x:?x*:cs\n50:t/g:*.gz\n50:t/r:readme\n",
     magic: b"MIME-Magic\0\n[40:t/g]\n>0=\0\x02\x1f\x8b\n",
     aliases: b"",
@@ -20,7 +20,7 @@ const GENERAL: [DirTexts<'static>; 1] = [DirTexts {
 }];
 
 /// The default order, in which a content is read where the name doesn't decide, and what else can be asked for.
-const ASKED: [&[&str]; 7] = [
+static ASKED: [&[&str]; 7] = [
     &[],
     &["--cost"],
     &["--content-only", "--cost"],
@@ -31,19 +31,19 @@ const ASKED: [&[&str]; 7] = [
 ];
 
 /// Names that decide in both caches, in one or in none, of contents of all kinds.
-const MIXED: [&str; 20] = [
+static MIXED: [&str; 20] = [
     "/text", "/gz", "/near", "/empty", "/one", "/mk", "/x.gz", "/ax", "/MX", "/text", "/gz",
     "/near", "/empty", "/one", "/mk", "/x.gz", "/ax", "/MX", "/gz", "/text",
 ];
 
 /// No name decides: contents are read from the first FILE on, and the magic list is read back after a few.
-const READ_FROM_THE_FIRST: [&str; 18] = [
+static READ_FROM_THE_FIRST: [&str; 18] = [
     "/text", "/gz", "/near", "/one", "/text", "/gz", "/near", "/one", "/text", "/gz", "/near",
     "/one", "/text", "/gz", "/near", "/one", "/text", "/gz",
 ];
 
 /// In the default order the contents of the ninth to the twentieth are read: the magic list is read back among them.
-const READ_FROM_THE_NINTH: [&str; 22] = [
+static READ_FROM_THE_NINTH: [&str; 22] = [
     "/mk", "/x.gz", "/mk", "/x.gz", "/mk", "/x.gz", "/mk", "/x.gz", "/text", "/gz", "/near",
     "/one", "/text", "/gz", "/near", "/one", "/text", "/gz", "/near", "/one", "/mk", "/x.gz",
 ];
