@@ -33,13 +33,14 @@ AS_ASKED, OF_TEXT = 'exec "$real" "$@"', 'exec "$real" "$1" -c -o "$object" "$ke
 
 
 def toolchain():
-    """The toolchain's library, by which what a check keeps is shared with the other checkouts on this machine, as `rt check` shares it."""
+    """The toolchain's library, by which what a check keeps is shared with the other checkouts on this machine, where `rt check` shares it."""
     found = os.path.realpath(shutil.which("rt") or sys.exit("there is no rt on the path"))
     if "rt" not in sys.modules:
         loader = importlib.machinery.SourceFileLoader("rt", found)
         sys.modules["rt"] = importlib.util.module_from_spec(importlib.util.spec_from_loader("rt", loader))
         loader.exec_module(sys.modules["rt"])
-        sys.modules["rt"].share_work(is_alone=True)
+        if hasattr(sys.modules["rt"], "share_work"):
+            sys.modules["rt"].share_work(is_alone=True)
     return sys.modules["rt"].rtlib
 
 
