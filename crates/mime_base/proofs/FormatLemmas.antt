@@ -1,3 +1,8 @@
+-- Lemmas on the format: a cache made by hand, the order of texts, trees with their leaves, and the types that have a parent.
 pub mod Sample
 pub mod SampleParts
 pub mod SampleTree
+pub mod TextOrder
+pub mod TreeLeaves
+pub mod DistinctTexts
+pub mod Subclasses

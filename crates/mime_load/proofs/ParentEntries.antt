@@ -10,8 +10,8 @@ use Rattle.mime_base.specs.Cache.Bytes.{Stands}
 use Rattle.mime_base.specs.Format.Parents.{IsName}
 use Rattle.mime_base.specs.Format.Records.{CardsAt}
 use Rattle.mime_base.specs.Format.Sorted.{text_lt}
+use Rattle.mime_base.proofs.FormatLemmas.TextOrder.{text_order}
 use Rattle.mime_store.specs.Runs.{IsRun, OfKind, PlainRun, second_text}
-use Rattle.mime_view.proofs.SearchLemmas.Places.{text_order}
 use Rattle.mime_load.specs.ParentLists.{Adding, AddsParents, Entries, IsBefore, IsParentEntry, IsGood}
 use Rattle.mime_load.specs.Parts.{RecordAt}
 use Rattle.mime_load.proofs.RecordLemmas.{list_said, records_more}
