@@ -1,4 +1,4 @@
--- Lemmas on the format: a cache made by hand, the order of texts, trees with their leaves, and the types that have a parent.
+-- Lemmas on the format: a cache made by hand, the order of texts, trees with their leaves, the types that have a parent, and runs of pairs.
 pub mod Sample
 pub mod SampleParts
 pub mod SampleTree
@@ -6,3 +6,6 @@ pub mod TextOrder
 pub mod TreeLeaves
 pub mod DistinctTexts
 pub mod Subclasses
+pub mod RunKinds
+pub mod RunsWhole
+pub mod ParentRuns

@@ -1,9 +1,11 @@
--- The order of texts by bytes: a lesser text is another, and of two texts that are not less than one another one is the other.
-use Rattle.std.proofs.Common.{◌≡◌, ℕ, true, false, List, Ordering, Less, Equal, Greater, nat_cmp, true≢false, refl, sym, ap, ◌∙◌}
+-- The order of texts by bytes: a lesser text is another, and two texts neither of which is less are one; and what is left of a sorted list.
+use Rattle.std.proofs.Common.{◌≡◌, ℕ, suc, ◌+◌, Bool, true, false, List, ◌∷◌, Ordering, Less, Equal, Greater, nat_cmp, get_or}
+use Rattle.std.proofs.Common.{true≢false, refl, sym, ap, subst, ◌∙◌, arith}
 use Rattle.std.specs.Prelude.{bytes_eq}
 use Rattle.std.specs.Ordering.{is_eq, is_lt, ordering_reverse}
 use Rattle.std.specs.Cmp.{IsStrictWeakOrder}
 use Rattle.std.specs.Cmp.Lexicographic.{slice_cmp}
+use Rattle.std.specs.List.Sorted.{IsSortedBy}
 use Rattle.std.proofs.lemmas.Cmp.{nat_list_cmp_total}
 use Rattle.std.proofs.lemmas.List.MinMax.{ranks_by}
 use Rattle.std.proofs.lemmas.Map.Text.{is_eq-slice_cmp}
@@ -40,3 +42,9 @@ same_less a b z same = ap is_lt (nat_list_cmp_total.congr a b z (equal (slice_cm
     equal Less e = absurd (true≢false (sym e))
     equal Equal e = refl
     equal Greater e = absurd (true≢false (sym e))
+
+-- what stands after the first of a sorted list is sorted
+pub sorted_tail : {X : Type 0} (lt : X → X → Bool) (x : X) (xs : List X) → IsSortedBy lt (x ∷ xs) → IsSortedBy lt xs
+sorted_tail lt x xs s k d low within =
+    let e : suc k + 1 ≡ suc (k + 1) = omega arith in
+    subst (λ (n : ℕ). lt (get_or (x ∷ xs) n d) (get_or xs k d) ≡ false) e (s (suc k) d (omega arith) (omega (arith, within)))
