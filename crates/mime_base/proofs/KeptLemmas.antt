@@ -9,6 +9,7 @@ pub mod Lesser
 pub mod Hidden
 pub mod Twins
 pub mod Candidates
+pub mod PlainPatterns
 use Rattle.std.proofs.Common.{◌≡◌, ℕ, ◌+◌, ◌*◌, ◌<◌, ◌≤◌, Bool, true, false, cond, ◌&&◌, ◌||◌, ◌==◌, nat_lt, List, []}
 use Rattle.std.proofs.Common.{◌∷◌, length, get_or, max, refl, sym, ap, ◌∙◌, arith}
 use Rattle.std.specs.List.{All, filter}

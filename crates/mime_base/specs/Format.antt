@@ -3,6 +3,7 @@ pub mod Records
 pub mod Sorted
 pub mod Pairs
 pub mod Parents
+pub mod Runs
 pub mod Stored
 pub mod Rules
 pub mod Tree

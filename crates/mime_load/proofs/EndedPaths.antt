@@ -7,11 +7,10 @@ use Rattle.std.proofs.lemmas.List.Elements.{All-append, All-cons, All-head, All-
 use Rattle.std.proofs.lemmas.Simd.{map-map}
 use Rattle.mime_base.specs.Format.Sorted.{with_key}
 use Rattle.mime_base.specs.Format.Stored.{is_in_tree, reversed_ending}
-use Rattle.mime_base.specs.Format.Tree.{Tree, bare, leaf, node}
+use Rattle.mime_base.specs.Format.Tree.{Tree, bare, leaf, node, rules_in}
 use Rattle.mime_base.specs.declared.database.rule.GlobRule.{GlobRule}
-use Rattle.mime_view.specs.Listing.Reads.{rules_in}
-use Rattle.mime_view.proofs.SuffixTreeLemmas.TreeLeaves.{Leaf, leaves, path_of, rule_of, under}
 use Rattle.mime_base.specs.Database.Limits.{KeepsLimits}
+use Rattle.mime_base.proofs.FormatLemmas.TreeLeaves.{Leaf, leaves, path_of, rule_of, under}
 use Rattle.mime_load.specs.Walks.{Ended}
 use Rattle.mime_load.proofs.TreePaths.{paths}
 

@@ -13,7 +13,7 @@ use Rattle.mime_base.specs.Format.Stored.{is_in_tree, reversed_ending, stored_te
 use Rattle.mime_base.specs.Format.Tree.{Tree, bare, leaf, leaf_count, leaves_at, node}
 use Rattle.mime_base.specs.Matching.Folding.{compared, compared_byte}
 use Rattle.mime_base.specs.declared.database.rule.GlobRule.{GlobRule}
-use Rattle.mime_view.proofs.HitsLemmas.RulePlaces.{tree_pattern}
+use Rattle.mime_base.proofs.KeptLemmas.PlainPatterns.{tree_pattern}
 use Rattle.mime_load.specs.Parts.{IsTreeList}
 use Rattle.mime_load.specs.Walks.{Ended, HasEnding}
 use Rattle.mime_load.proofs.StoredPatterns.{compared-bytes}

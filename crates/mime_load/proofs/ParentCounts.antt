@@ -7,7 +7,7 @@ use Rattle.mime_base.specs.Cache.Bytes.{Stands}
 use Rattle.mime_base.specs.Database.Subclass.{parents}
 use Rattle.mime_base.specs.Format.Parents.{IsSubclass, ParentsAt}
 use Rattle.mime_base.specs.Format.Records.{RecordsAt}
-use Rattle.mime_store.specs.Runs.{IsRun, PlainRun, second_text}
+use Rattle.mime_base.specs.Format.Runs.{IsRun, PlainRun, second_text}
 use Rattle.mime_load.specs.Parts.{RecordAt}
 use Rattle.mime_load.proofs.ParentSums.{parent_count, parents_sum}
 use Rattle.mime_load.proofs.SameLemmas.{same_numbers}

@@ -9,9 +9,10 @@ use Rattle.std.proofs.lemmas.List.Quantifiers.{all_pairs_push}
 use Rattle.mime_base.specs.Cache.Bytes.{Stands}
 use Rattle.mime_base.specs.Format.Parents.{IsName}
 use Rattle.mime_base.specs.Format.Records.{CardsAt}
+use Rattle.mime_base.specs.Format.Runs.{IsRun, PlainRun, second_text}
 use Rattle.mime_base.specs.Format.Sorted.{text_lt}
-use Rattle.mime_store.specs.Runs.{IsRun, OfKind, PlainRun, second_text}
-use Rattle.mime_view.proofs.SearchLemmas.Places.{text_order}
+use Rattle.mime_base.proofs.FormatLemmas.RunKinds.{of_kind-push}
+use Rattle.mime_base.proofs.FormatLemmas.TextOrder.{text_order}
 use Rattle.mime_load.specs.ParentLists.{Adding, AddsParents, Entries, IsBefore, IsParentEntry, IsGood}
 use Rattle.mime_load.specs.Parts.{RecordAt}
 use Rattle.mime_load.proofs.RecordLemmas.{list_said, records_more}
@@ -76,11 +77,6 @@ pub adding_none : (c : List ℕ) (first : ℕ) (kind : List ℕ) (before : Pairs
 adding_none c first kind before =
     record { added = []; whole = sym (append-nil before); size = refl; of_kind = tt; stand = tt }
 
--- one more pair of a type
-of_kind_push : (kind : List ℕ) (pairs : Pairs) (pair : List ℕ × List ℕ) → OfKind kind pairs → pair.0 ≡ kind → OfKind kind (pairs ++ pair ∷ [])
-of_kind_push kind [] pair of is = (is, tt)
-of_kind_push kind (first ∷ pairs) pair of is = (of.0, of_kind_push kind pairs pair of.1 is)
-
 -- one more parent was added
 pub adding_more : (c : List ℕ) (first i at : ℕ) (kind target : List ℕ) (before mid after : Pairs) → Adding c first i kind before mid
     → after ≡ mid ++ (kind, target) ∷ [] → at ≡ first + 4 * i → RecordAt (Stands c) (IsName (Stands c)) at target
@@ -91,7 +87,7 @@ adding_more c first i at kind target before mid after a is place one =
       added = a.added ++ pair ∷ [];
       whole = is ∙ ap (λ (ps : Pairs). ps ++ pair ∷ []) a.whole ∙ append_assoc before a.added (pair ∷ []);
       size = omega (arith, length_push a.added pair, a.size);
-      of_kind = of_kind_push kind a.added pair a.of_kind refl;
+      of_kind = of_kind-push kind a.added pair a.of_kind refl;
       stand =
           rw (map-append second_text a.added (pair ∷ []))
           (records_more (Stands c) 4 (IsName (Stands c)) first at (map second_text a.added) target a.stand

@@ -9,7 +9,7 @@ use Rattle.std.proofs.lemmas.Map.Keys.{IsDistinct-IsPermutation, IsDistinct-head
 use Rattle.std.proofs.lemmas.Slice.Eq.{bytes_eq-Decides}
 use Rattle.mime_base.specs.Database.Subclass.{parents}
 use Rattle.mime_base.specs.Format.Parents.{subclasses}
-use Rattle.mime_store.proofs.SuffixTreeLemmas.Unique.{unique_distinct, unique_member}
+use Rattle.mime_base.proofs.FormatLemmas.DistinctTexts.{unique_distinct, unique_member}
 
 -- pairs of texts
 abbrev Pairs : Type 0

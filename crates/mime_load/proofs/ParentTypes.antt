@@ -5,10 +5,10 @@ use Rattle.std.proofs.lemmas.Slice.Eq.{bytes_eq-Decides}
 use Rattle.mime_base.specs.Cache.Bytes.{Stands}
 use Rattle.mime_base.specs.Database.Subclass.{parents}
 use Rattle.mime_base.specs.Format.Parents.{IsSubclass, ParentsAt}
+use Rattle.mime_base.specs.Format.Runs.{IsRun, PlainRun, second_text}
 use Rattle.mime_base.specs.Format.Sorted.{text_lt}
-use Rattle.mime_store.specs.Runs.{IsRun, PlainRun, second_text}
-use Rattle.mime_view.proofs.ParentsLemmas.Subclasses.{kinds_have_parents, kinds_once}
-use Rattle.mime_view.proofs.SearchLemmas.Lookups.{neither_less}
+use Rattle.mime_base.proofs.FormatLemmas.Subclasses.{kinds_have_parents, kinds_once}
+use Rattle.mime_base.proofs.FormatLemmas.TextOrder.{neither_less}
 use Rattle.mime_load.specs.ParentLists.{Entries, EntryStands, IsParentEntry}
 use Rattle.mime_load.proofs.ParentSums.{parent_count, parents_sum}
 use Rattle.mime_load.proofs.RecordLemmas.{record_at}

@@ -4,7 +4,7 @@ use Rattle.mime_base.specs.Cache.Bytes.{Stands}
 use Rattle.mime_base.specs.Database.Subclass.{parents}
 use Rattle.mime_base.specs.Format.Parents.{IsName, IsSubclass}
 use Rattle.mime_base.specs.Format.Records.{CardsAt, ListAt, TextAt}
-use Rattle.mime_store.specs.Runs.{IsRun, PlainRun, second_text}
+use Rattle.mime_base.specs.Format.Runs.{IsRun, PlainRun, second_text}
 use Rattle.mime_load.specs.ParentLists.{EntryStands}
 use Rattle.mime_load.specs.Parts.{RecordAt}
 use Rattle.mime_load.proofs.NextRecords.{same_text}

@@ -8,12 +8,10 @@ use Rattle.std.proofs.lemmas.List.Sorted.{IsPermutation-refl}
 use Rattle.mime_base.specs.Cache.Bytes.{Stands}
 use Rattle.mime_base.specs.Format.Parents.{ParentsAt}
 use Rattle.mime_base.specs.Format.Records.{CardsAt}
+use Rattle.mime_base.specs.Format.Runs.{AreRuns, IsRun, OfKind, PlainRun, first_text}
 use Rattle.mime_base.specs.Format.Sorted.{text_lt}
-use Rattle.mime_store.specs.Runs.{AreRuns, IsRun, OfKind, PlainRun}
-use Rattle.mime_store.specs.Views.{first_text}
-use Rattle.mime_store.proofs.ParentsLemmas.ParentLists.{parents_stand}
-use Rattle.mime_view.proofs.SearchLemmas.Lookups.{less_differs}
-use Rattle.mime_view.proofs.SearchLemmas.Places.{text_order}
+use Rattle.mime_base.proofs.FormatLemmas.ParentRuns.{parents_stand}
+use Rattle.mime_base.proofs.FormatLemmas.TextOrder.{less_differs, text_order}
 use Rattle.mime_load.specs.ParentLists.{Entries, IsBefore, IsGood}
 use Rattle.mime_load.proofs.ParentEntries.{Pairs, flat}
 use Rattle.mime_load.proofs.RecordLemmas.{list_said}

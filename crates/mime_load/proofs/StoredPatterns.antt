@@ -10,7 +10,7 @@ use Rattle.mime_base.specs.Format.Stored.{is_in_globs, is_in_literals, is_in_tre
 use Rattle.mime_base.specs.Kept.Classes.{class_of}
 use Rattle.mime_base.specs.Matching.Folding.{compared, compared_byte}
 use Rattle.mime_base.specs.declared.database.rule.GlobRule.{GlobRule}
-use Rattle.mime_view.proofs.HitsLemmas.StoredRules.{class_of-compared}
+use Rattle.mime_base.proofs.KeptLemmas.ByText.{class_of-compared}
 use Rattle.mime_load.specs.Walks.{is_suffix}
 
 -- a text of bytes that folding does not change

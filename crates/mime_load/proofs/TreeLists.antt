@@ -8,10 +8,9 @@ use Rattle.mime_base.specs.Format.Records.{CardsAt}
 use Rattle.mime_base.specs.Format.Sorted.{with_key}
 use Rattle.mime_base.specs.Format.Stored.{is_in_tree, reversed_ending, tree_rules}
 use Rattle.mime_base.specs.Format.SuffixTree.{front_count, tree_size}
-use Rattle.mime_base.specs.Format.Tree.{InOrder, node_count}
+use Rattle.mime_base.specs.Format.Tree.{InOrder, node_count, rules_in}
 use Rattle.mime_base.specs.declared.database.rule.GlobRule.{GlobRule}
-use Rattle.mime_view.specs.Listing.Reads.{rules_in}
-use Rattle.mime_view.proofs.SuffixTreeLemmas.TreeLeaves.{leaves, leaves-at, length-leaves, rules-leaves}
+use Rattle.mime_base.proofs.FormatLemmas.TreeLeaves.{leaves, leaves-at, length-leaves, rules-leaves}
 use Rattle.mime_load.specs.Parts.{IsTreeList}
 use Rattle.mime_load.specs.Walks.{Walked}
 use Rattle.mime_load.proofs.EndedPaths.{HasPath, ended_limits, ended_paths, ended_rules, endings_of, keys_of, paths_of}

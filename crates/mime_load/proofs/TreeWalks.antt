@@ -6,11 +6,10 @@ use Rattle.std.proofs.lemmas.List.{append-nil, length-reverse, reverse-append}
 use Rattle.mime_base.specs.Cache.Bytes.{Stands}
 use Rattle.mime_base.specs.Format.Records.{CardsAt, TextAt}
 use Rattle.mime_base.specs.Format.Stored.{weight_and_flags}
-use Rattle.mime_base.specs.Format.Tree.{Tree, bare, leaf, leaf_count, node, sibling_count}
+use Rattle.mime_base.specs.Format.Tree.{Tree, bare, leaf, leaf_count, node, rules_in, sibling_count}
 use Rattle.mime_base.specs.Matching.Folding.{compared}
 use Rattle.mime_base.specs.declared.database.rule.GlobRule.{GlobRule}
-use Rattle.mime_view.specs.Listing.Reads.{rules_in}
-use Rattle.mime_view.proofs.SuffixTreeLemmas.TreeLeaves.{length-leaves, rules-leaves}
+use Rattle.mime_base.proofs.FormatLemmas.TreeLeaves.{length-leaves, rules-leaves}
 use Rattle.mime_load.specs.Walks.{IsLeafRule, Walked, is_suffix}
 use Rattle.mime_load.proofs.RuleLists.{flags_are}
 

@@ -4,8 +4,8 @@ use Rattle.std.specs.List.{AllPairs, flat_map}
 use Rattle.mime_base.specs.Cache.Bytes.{Stands}
 use Rattle.mime_base.specs.Format.Parents.{IsName}
 use Rattle.mime_base.specs.Format.Records.{CardsAt, ListAt, RecordsAt, TextAt}
+use Rattle.mime_base.specs.Format.Runs.{IsRun, OfKind, PlainRun, second_text}
 use Rattle.mime_base.specs.Format.Sorted.{text_lt}
-use Rattle.mime_store.specs.Runs.{IsRun, OfKind, PlainRun, second_text}
 
 -- The pairs of a type were added, of whose parents a list stands at `at`.
 pub record AddsParents (c : List ℕ) (at : ℕ) (kind : List ℕ) (before after : List (List ℕ × List ℕ)) : Type 0 where

@@ -5,9 +5,8 @@ use Rattle.mime_base.specs.Database.Limits.{KeepsLimits}
 use Rattle.mime_base.specs.Format.Records.{TextAt}
 use Rattle.mime_base.specs.Format.Stored.{is_in_tree, is_suffix_class, stored_text, weight_and_flags}
 use Rattle.mime_base.specs.Kept.Classes.{class_of}
-use Rattle.mime_base.specs.Format.Tree.{InOrder, Tree, TreeAt, bare, leaf, node, node_count, sibling_count}
+use Rattle.mime_base.specs.Format.Tree.{InOrder, Tree, TreeAt, bare, leaf, node, node_count, rules_in, sibling_count}
 use Rattle.mime_base.specs.declared.database.rule.GlobRule.{GlobRule}
-use Rattle.mime_view.specs.Listing.Reads.{rules_in}
 
 -- a pattern of the tree: a star with a plain ending after it
 abbrev pub is_suffix : List ℕ → Bool

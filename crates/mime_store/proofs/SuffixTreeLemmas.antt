@@ -5,7 +5,6 @@ pub mod SoFar
 pub mod OneSibling
 pub mod Groups
 pub mod Rising
-pub mod Unique
 pub mod Distinct
 pub mod Nodes
 pub mod Counts

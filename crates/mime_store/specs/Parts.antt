@@ -5,11 +5,12 @@ use Rattle.mime_base.specs.Format.Sorted.{IsSortedByText}
 use Rattle.mime_base.specs.Format.Stored.{glob_rules, literal_rules, stored_text, tree_rules}
 use Rattle.mime_base.specs.Magic.{plain_sections}
 use Rattle.mime_base.specs.Database.PlainPairs.{plain_icons, plain_pairs}
+use Rattle.mime_base.specs.Format.Runs.{first_text}
 use Rattle.mime_base.specs.declared.database.Database as code
 use Rattle.mime_base.specs.declared.magic.Section.{Section}
 use Rattle.mime_store.specs.SuffixTree.{AreEndings, entries_room, ending_entry}
 use Rattle.mime_store.specs.Runs.{plain_run, runs_room}
-use Rattle.mime_store.specs.Views.{first_text, pair_texts, rule_of}
+use Rattle.mime_store.specs.Views.{pair_texts, rule_of}
 use Rattle.mime_store.specs.declared.run.Run.{Run}
 use Rattle.mime_store.specs.declared.parts.Parts.{Parts}
 

@@ -10,10 +10,6 @@ use Rattle.mime_store.specs.declared.stored_rule.StoredRule.{StoredRule}
 abbrev pub pair_texts : TextPair → List ℕ × List ℕ
 pair_texts pair = (pair.first.now, pair.second.now)
 
--- the first text of a pair
-abbrev pub first_text : List ℕ × List ℕ → List ℕ
-first_text pair = pair.0
-
 -- what the texts of a pair take
 abbrev pub pair_texts_room : List ℕ × List ℕ → ℕ
 pair_texts_room pair = text_room pair.0 + text_room pair.1

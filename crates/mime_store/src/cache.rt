@@ -7,10 +7,11 @@ ghost use Rattle.std.specs.Prelude.{◌≡◌, ◌+◌, ◌^◌, ◌<◌, ◌≤
 ghost use Rattle.mime_base.specs.Database.{plain_database};
 ghost use Rattle.mime_base.specs.Format.Packed.{Packed};
 ghost use Rattle.mime_base.specs.Format.Room.{room};
+ghost use Rattle.mime_base.specs.Format.Runs.{AreRuns};
 ghost use Rattle.mime_base.specs.Format.Spells.{Spells, cache_limit};
 ghost use Rattle.mime_store.specs.Namespaces.{HasNoNamespaces};
 ghost use Rattle.mime_store.specs.Parts.{AreParts, parts_room};
-ghost use Rattle.mime_store.specs.Runs.{AreRuns, plain_run};
+ghost use Rattle.mime_store.specs.Runs.{plain_run};
 ghost use Rattle.mime_store.specs.Views.{pair_texts};
 
 use crate::bound::is_bounded;

@@ -3,7 +3,8 @@
 ghost use Rattle.std.specs.Prelude.{◌≡◌, map, OnOk, IfOk};
 ghost use Rattle.mime_base.specs.Format.Sorted.{IsSortedByText};
 ghost use Rattle.mime_base.specs.Database.PlainPairs.{plain_icons, plain_pairs};
-ghost use Rattle.mime_store.specs.Views.{first_text, pair_texts};
+ghost use Rattle.mime_base.specs.Format.Runs.{first_text};
+ghost use Rattle.mime_store.specs.Views.{pair_texts};
 
 use crate::bytes::append_text;
 use crate::list::Entry;

@@ -2,8 +2,9 @@
 
 ghost use Rattle.std.specs.Prelude.{◌≤◌, length, map, take, drop, IfOk};
 ghost use Rattle.std.specs.List.Sorted.{IsSortedBy};
+ghost use Rattle.mime_base.specs.Format.Runs.{AreRuns, OfKind};
 ghost use Rattle.mime_base.specs.Format.Sorted.{text_lt};
-ghost use Rattle.mime_store.specs.Runs.{AreRuns, EndsRun, OfKind, plain_run};
+ghost use Rattle.mime_store.specs.Runs.{EndsRun, plain_run};
 ghost use Rattle.mime_store.specs.Views.{pair_texts};
 
 use crate::bytes::append_text;
@@ -55,7 +56,8 @@ fn run_length(pairs: &[TextPair<'_>], kind: &[u8]) -> usize
 }
 
 impl Entry<2> for Run<'_, '_> {
-    ghost use Rattle.mime_store.specs.Runs.{IsRun, PlainRun, plain_run, run_parts_room};
+    ghost use Rattle.mime_base.specs.Format.Runs.{IsRun, PlainRun};
+    ghost use Rattle.mime_store.specs.Runs.{plain_run, run_parts_room};
     ghost use Rattle.std.proofs.Common.{lit<, lit≤};
 
     ghost Plain = { PlainRun };

@@ -10,7 +10,6 @@ pub mod TreeBegins
 pub mod SiblingRows
 pub mod SiblingNodes
 pub mod SiblingSteps
-pub mod TreeLeaves
 pub mod TreeOrder
 pub mod EndedRules
 pub mod TreesRead

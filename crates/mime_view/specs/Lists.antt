@@ -1,12 +1,13 @@
 -- Lists of records of a cache, and what is wrong where one can't be read.
-use Rattle.std.specs.Prelude.{◌≡◌, ◌≢◌, ◌⊎◌, ℕ, suc, ◌+◌, ◌*◌, ◌<◌, ◌≤◌, Bool, true, false, List, [], ◌∷◌, get_or, length, Ok, Err}
+use Rattle.std.specs.Prelude.{◌≡◌, ◌≢◌, ◌⊎◌, ℕ, suc, ◌+◌, ◌*◌, ◌<◌, ◌≤◌, true, false, List, [], ◌∷◌, get_or, length, Ok, Err}
 use Rattle.std.specs.Prelude.{Option, None, Some, IfSome, option_map, if◌then◌else◌, bytes_eq}
-use Rattle.std.specs.Ordering.{is_lt, nat_cmp}
+use Rattle.std.specs.Ordering.{nat_cmp}
 use Rattle.std.specs.List.Sorted.{IsSortedBy}
 use Rattle.std.specs.Cmp.Lexicographic.{slice_cmp}
 use Rattle.std.specs.declared.cmp.Ordering.TheVariants.{Less}
 use Rattle.mime_base.specs.Cache.Bytes.{field}
 use Rattle.mime_base.specs.Cache.Texts.{text_at}
+use Rattle.mime_base.specs.Format.Sorted.{text_lt}
 use Rattle.mime_base.specs.declared.cache.byte_fault.ByteFault.{ByteFault}
 use Rattle.mime_view.specs.Faults.{cache_fault}
 use Rattle.mime_view.specs.declared.entry.NamedEntry.{NamedEntry}
@@ -23,13 +24,9 @@ abbrev pub KeysAt : List ℕ → ℕ → ℕ → List (List ℕ) → Type 0
 KeysAt c at size [] = Unit {0}
 KeysAt c at size (key ∷ keys) = (text_at c (field c at 0) ≡ Ok key) × KeysAt c (at + size) size keys
 
--- one text is less than another, by bytes
-abbrev pub is_less : List ℕ → List ℕ → Bool
-is_less left right = is_lt (slice_cmp nat_cmp left right)
-
 -- no text is less than the one before it
 abbrev pub AreSorted : List (List ℕ) → Type 0
-AreSorted keys = IsSortedBy is_less keys
+AreSorted keys = IsSortedBy text_lt keys
 
 -- the place of the first text that is the key
 abbrev pub place_of : List (List ℕ) → List ℕ → Option ℕ
@@ -46,8 +43,8 @@ pub record ReadsKeys (c : List ℕ) (at : ℕ) (keys : List (List ℕ)) : Type 0
 -- the texts before a place are less than a key, and those from it on are not
 pub record SplitsAt (keys : List (List ℕ)) (key : List ℕ) (place : ℕ) : Type 0 where
   pub within : place ≤ length keys
-  pub less : (i : ℕ) → i < place → is_less (get_or keys i []) key ≡ true
-  pub not_less : (i : ℕ) → place ≤ i → i < length keys → is_less (get_or keys i []) key ≡ false
+  pub less : (i : ℕ) → i < place → text_lt (get_or keys i []) key ≡ true
+  pub not_less : (i : ℕ) → place ≤ i → i < length keys → text_lt (get_or keys i []) key ≡ false
 
 -- a place among `count` sorted records: the text before it is less than the key, and the one at it is not
 pub record IsPlace (c : List ℕ) (first size count : ℕ) (key : List ℕ) (place : ℕ) : Type 0 where

@@ -1,12 +1,13 @@
 -- Worked rows of what a cache offers for a name, of its lists and of what is taken for them, which compute.
 use Rattle.std.specs.Prelude.{◌≡◌, ℕ, ◌+◌, ◌*◌, Bool, true, false, refl, codes, List, [], ◌∷◌, map, length, None, Some}
+use Rattle.mime_base.specs.Format.Sorted.{text_lt}
 use Rattle.mime_base.specs.Kept.Classes.{class_of}
 use Rattle.mime_base.specs.Matching.Elements.{elements}
 use Rattle.mime_base.specs.Matching.Matches.{matches, rule_matches}
 use Rattle.mime_base.specs.Format.Tree.{bare, leaf, node}
 use Rattle.mime_base.specs.declared.database.rule.GlobRule.{GlobRule}
 use Rattle.mime_view.specs.Hits.{ending_rules, glob_list_hits, hit_visits, literal_visits, near, tree_visits}
-use Rattle.mime_view.specs.Lists.{is_less, place_of}
+use Rattle.mime_view.specs.Lists.{place_of}
 use Rattle.mime_view.specs.NameHits.{has_capitals, list_records, near_records}
 use Rattle.mime_view.specs.Opening.{version_number}
 use Rattle.mime_view.specs.Pairs.{looked_up}
@@ -134,10 +135,10 @@ looked_up_none : looked_up ((codes "a", codes "x") ∷ []) (codes "x") ≡ None
 looked_up_none = refl
 
 -- a front comes before the whole, and no text before itself
-less_by_bytes : is_less (codes "a") (codes "ab") ≡ true
+less_by_bytes : text_lt (codes "a") (codes "ab") ≡ true
 less_by_bytes = refl
 
-not_less_than_itself : is_less (codes "ab") (codes "ab") ≡ false
+not_less_than_itself : text_lt (codes "ab") (codes "ab") ≡ false
 not_less_than_itself = refl
 
 -- places stand once and rise

@@ -12,11 +12,11 @@ mod source;
 mod tree;
 
 ghost use Rattle.std.specs.Prelude.{◌≡◌, ◌+◌, ◌^◌, ◌<◌, List, ◌++◌, All, length, map, IfOk, MatchResult};
-ghost use Rattle.mime_base.specs.Format.Tree.{Tree, node_count};
+ghost use Rattle.mime_base.specs.Format.Tree.{Tree, node_count, rules_in};
 ghost use Rattle.mime_base.specs.declared.database.rule.GlobRule.{GlobRule};
 ghost use Rattle.mime_view.specs.Listing.{IsListed, listed_rule, plain_listed};
 ghost use Rattle.mime_view.specs.Listing.Faults.{IsListsFault};
-ghost use Rattle.mime_view.specs.Listing.Reads.{ReadsListedRules, ReadsSuffixTree, rules_in};
+ghost use Rattle.mime_view.specs.Listing.Reads.{ReadsListedRules, ReadsSuffixTree};
 ghost use Rattle.mime_view.specs.Listing.Walks.{ListsRules};
 ghost use Rattle.mime_view.specs.Spending.{Gives, Spends, per_record};
 

@@ -28,6 +28,12 @@ leaf_count bare = 0
 leaf_count (leaf rule rest) = 1 + leaf_count rest
 leaf_count (node character below rest) = leaf_count below + leaf_count rest
 
+-- the rules of the leaves, a node's before those of the siblings after it
+abbrev pub rules_in : Tree → List GlobRule
+rules_in bare = []
+rules_in (leaf rule rest) = rule ∷ rules_in rest
+rules_in (node character below rest) = rules_in below ++ rules_in rest
+
 -- Siblings stand one after another, in three numbers each: a leaf is 0, the offset of its type, weight and flags;
 -- a node is its character, how many siblings are below it, and the offset of the first.
 abbrev pub TreeAt : Standing → ℕ → Tree → Type 0

@@ -15,10 +15,10 @@ use Rattle.mime_base.specs.Format.Tree.{TreeAt, sibling_count}
 use Rattle.mime_base.specs.Kept.{FitsRank}
 use Rattle.mime_base.specs.Matching.Folding.{compared, compared_byte}
 use Rattle.mime_base.specs.declared.database.rule.GlobRule.{GlobRule}
+use Rattle.mime_base.proofs.KeptLemmas.PlainPatterns.{tree_pattern}
 use Rattle.mime_load.specs.Parts.{RecordAt}
 use Rattle.mime_load.proofs.NextRecords.{same_text}
 use Rattle.mime_load.proofs.SameLemmas.{same_numbers}
-use Rattle.mime_view.proofs.HitsLemmas.RulePlaces.{tree_pattern}
 use Rattle.mime_view.proofs.HitsLemmas.SameKeys.{same_bytes}
 use Rattle.mime_lookup.proofs.SpellingLemmas.Mapped.{maps-alike}
 use Rattle.mime_lookup.proofs.SpellingLemmas.Records.{same_list, three_numbers}

@@ -5,7 +5,8 @@ use Rattle.mime_base.specs.Format.Stored.{stored_text, weight_and_flags}
 use Rattle.mime_base.specs.Kept.{rank, rank_of_rule}
 use Rattle.mime_base.specs.Matching.Folding.{compared_byte}
 use Rattle.mime_base.specs.declared.database.rule.GlobRule.{GlobRule}
-use Rattle.mime_view.proofs.HitsLemmas.StoredRules.{cased-stored, class_of-compared, weight-stored}
+use Rattle.mime_base.proofs.KeptLemmas.ByText.{class_of-compared}
+use Rattle.mime_view.proofs.HitsLemmas.StoredRules.{cased-stored, weight-stored}
 
 -- the rule whose pattern is as it is stored
 abbrev pub as_stored : GlobRule → GlobRule

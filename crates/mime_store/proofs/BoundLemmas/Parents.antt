@@ -2,7 +2,7 @@
 use Rattle.std.proofs.Common.{◌≡◌, ℕ, ◌+◌, ◌≤◌, List, [], ◌∷◌, map, sum_by, arith, refl}
 use Rattle.std.proofs.lemmas.List.Sums.{sum_by-cons}
 use Rattle.mime_base.specs.Format.Room.{parents_room, text_room}
-use Rattle.mime_store.specs.Views.{first_text}
+use Rattle.mime_base.specs.Format.Runs.{first_text}
 use Rattle.mime_store.proofs.BoundLemmas.Fewer.{unique-sum}
 
 -- what a pair takes with an entry and a text for its type

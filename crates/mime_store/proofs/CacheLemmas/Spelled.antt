@@ -8,6 +8,7 @@ use Rattle.mime_base.specs.Format.Pairs.{IsPair, PairsAt}
 use Rattle.mime_base.specs.Format.Records.{ListAt, Standing}
 use Rattle.mime_base.specs.Format.Room.{pairs_room, room, rules_room, text_room}
 use Rattle.mime_base.specs.Format.Rules.{IsRule, LiteralsAt}
+use Rattle.mime_base.specs.Format.Runs.{AreRuns, first_text}
 use Rattle.mime_base.specs.Format.Sorted.{IsSortedByText}
 use Rattle.mime_base.specs.Format.Stored.{literal_rules, stored_text, tree_rules}
 use Rattle.mime_base.specs.Format.SuffixTree.{SuffixTreeAt}
@@ -15,8 +16,8 @@ use Rattle.mime_base.specs.declared.database.Database as code
 use Rattle.mime_base.specs.declared.database.rule.GlobRule.{GlobRule}
 use Rattle.mime_store.specs.SuffixTree.{AreEndings, PathRule, TreeOf}
 use Rattle.mime_store.specs.Parts.{AreParts, parts_room}
-use Rattle.mime_store.specs.Runs.{AreRuns, plain_run}
-use Rattle.mime_store.specs.Views.{first_text, pair_texts}
+use Rattle.mime_store.specs.Runs.{plain_run}
+use Rattle.mime_store.specs.Views.{pair_texts}
 use Rattle.mime_store.specs.declared.run.Run.{Run}
 use Rattle.mime_store.specs.declared.parts.Parts.{Parts}
 use Rattle.mime_store.proofs.ListLemmas.Entries.{cards_carry, records_carry}

@@ -8,20 +8,22 @@ use Rattle.mime_base.specs.Format.Magic.{MagicAt}
 use Rattle.mime_base.specs.Format.Pairs.{IsPair}
 use Rattle.mime_base.specs.Format.Records.{CardsAt, ListAt}
 use Rattle.mime_base.specs.Format.Rules.{IsRule}
+use Rattle.mime_base.specs.Format.Runs.{AreRuns, IsRun}
 use Rattle.mime_base.specs.Format.Spells.{Spells, cache_limit}
 use Rattle.mime_base.specs.Magic.{plain_sections}
+use Rattle.mime_base.proofs.FormatLemmas.ParentRuns.{parents_stand}
 use Rattle.mime_base.specs.declared.database.Database as code
 use Rattle.mime_store.specs.SuffixTree.{TreeOf, ending_entry}
 use Rattle.mime_store.specs.Namespaces.{HasNoNamespaces}
 use Rattle.mime_store.specs.Parts.{AreParts}
-use Rattle.mime_store.specs.Runs.{AreRuns, IsRun, plain_run}
+use Rattle.mime_store.specs.Runs.{plain_run}
 use Rattle.mime_store.specs.Views.{pair_texts, rule_of}
 use Rattle.mime_store.specs.Written.{Grew, Written}
 use Rattle.mime_store.specs.declared.run.Run.{Run}
 use Rattle.mime_store.specs.declared.parts.Parts.{Parts}
 use Rattle.mime_store.proofs.ListLemmas.Entries.{cards_carry, pair_keeps, rule_keeps}
 use Rattle.mime_store.proofs.BytesLemmas.Header.{patched}
-use Rattle.mime_store.proofs.ParentsLemmas.ParentLists.{parents_stand, run_keeps}
+use Rattle.mime_store.proofs.ParentsLemmas.ParentLists.{run_keeps}
 use Rattle.mime_store.proofs.BytesLemmas.Records.{length-cards}
 use Rattle.mime_store.proofs.CacheLemmas.Spelled.{list_carry, literals_stand, magic_carry, pairs_stand, suffix_tree_stands, tree_of_carry}
 use Rattle.mime_store.proofs.BytesLemmas.Written.{Carries, written_more}

@@ -4,14 +4,16 @@ use Rattle.std.proofs.Common.{append_assoc, arith, true, false, not, bytes_eq, �
 use Rattle.std.specs.List.Sorted.{IsSortedBy}
 use Rattle.std.proofs.lemmas.List.{append-nil, drop-drop, drop-map, drop_all, drop_more, length-map}
 use Rattle.std.proofs.lemmas.List.{map-append, take-map}
-use Rattle.mime_store.specs.Runs.{AreRuns, EndsRun, OfKind, PlainRun, plain_run}
+use Rattle.mime_store.specs.Runs.{EndsRun, plain_run}
 use Rattle.mime_store.specs.Views.{pair_texts}
 use Rattle.mime_store.specs.declared.text_pair.TextPair.{TextPair}
 use Rattle.mime_store.specs.declared.run.Run.{Run}
-use Rattle.mime_store.proofs.ParentsLemmas.Runs.{by_first, first_run, of_kind-push, some_taken, sorted_drop}
+use Rattle.mime_store.proofs.ParentsLemmas.Runs.{first_run, some_taken, sorted_drop}
 use Rattle.mime_store.proofs.ListLemmas.Loops.{views_more}
 use Rattle.mime_store.proofs.RulesLemmas.Sorting.{bytes_eq-is}
 use Rattle.std.proofs.lemmas.Bool.{cases_Bool}
+use Rattle.mime_base.specs.Format.Runs.{AreRuns, OfKind, PlainRun}
+use Rattle.mime_base.proofs.FormatLemmas.RunKinds.{by_first, of_kind-push}
 
 -- the first of what is left
 first_left : (pairs : List TextPair) (at : ℕ) (d : TextPair) → at < length pairs

@@ -1,17 +1,18 @@
 -- The runs of sorted pairs: they are found from the front, and say what the pairs say.
-use Rattle.std.proofs.Common.{◌≡◌, ℕ, zero, suc, ◌<◌, ◌≤◌, Bool, true, false, List, [], ◌∷◌, ◌++◌, ⊎_elim}
+use Rattle.std.proofs.Common.{◌≡◌, ℕ, zero, suc, ◌<◌, ◌≤◌, true, false, List, [], ◌∷◌, ◌++◌, ⊎_elim}
 use Rattle.std.proofs.Common.{inl, inr, length, get_or, map, take, drop, refl, sym, ap, subst, ◌∙◌, arith, bytes_eq}
 use Rattle.std.specs.List.Sorted.{IsSortedBy}
 use Rattle.std.specs.Set.{is_member}
 use Rattle.std.proofs.lemmas.Bool.{cases_Bool}
+use Rattle.std.proofs.lemmas.Cmp.{nat_list_eq_equiv}
 use Rattle.std.proofs.lemmas.List.{take-append-drop}
-use Rattle.mime_base.specs.Format.Sorted.{text_lt}
+use Rattle.mime_base.specs.Format.Runs.{AreRuns, OfKind, PlainRun, first_text}
+use Rattle.mime_base.proofs.FormatLemmas.RunKinds.{by_first}
+use Rattle.mime_base.proofs.FormatLemmas.TextOrder.{sorted_tail}
 use Rattle.mime_store.specs.SuffixTree.{PathLe}
-use Rattle.mime_store.specs.Runs.{AreRuns, EndsRun, OfKind, PlainRun}
-use Rattle.mime_store.specs.Views.{first_text}
-use Rattle.mime_store.proofs.SuffixTreeLemmas.Rising.{path_le, sorted_tail}
+use Rattle.mime_store.specs.Runs.{EndsRun}
+use Rattle.mime_store.proofs.SuffixTreeLemmas.Rising.{path_le}
 use Rattle.mime_store.proofs.RulesLemmas.Sorting.{bytes_eq-is, bytes_eq-same}
-use Rattle.mime_store.proofs.SuffixTreeLemmas.Unique.{bytes_eq-flips}
 
 -- pairs of texts
 abbrev Pairs : Type 0
@@ -40,10 +41,6 @@ le_antisym (x ∷ a) (y ∷ b) h i =
 abbrev Up : List ℕ → Pairs → Type 0
 Up before [] = Unit {0}
 Up before (pair ∷ pairs) = PathLe before pair.0 × Up pair.0 pairs
-
--- by which two pairs are compared
-abbrev pub by_first : List ℕ × List ℕ → List ℕ × List ℕ → Bool
-by_first left right = text_lt left.0 right.0
 
 -- sorted pairs rise from the first of them
 up_sorted : (pair : List ℕ × List ℕ) (pairs : Pairs) → IsSortedBy by_first (pair ∷ pairs) → Up pair.0 pairs
@@ -80,7 +77,7 @@ above_lacks kind next (pair ∷ pairs) le ne up =
 lacks_after : (kind : List ℕ) (rest : Pairs) → Up kind rest → EndsRun kind rest → is_member bytes_eq (map first_text rest) kind ≡ false
 lacks_after kind [] up ends = refl
 lacks_after kind (pair ∷ rest) up ends =
-    let ne : bytes_eq kind pair.0 ≡ false = bytes_eq-flips kind pair.0 ∙ ends in
+    let ne : bytes_eq kind pair.0 ≡ false = nat_list_eq_equiv.symm kind pair.0 ∙ ends in
     rw ne (above_lacks kind pair.0 rest up.0 ne up.1)
 
 -- the first run of sorted pairs, before the runs of what is left
@@ -103,9 +100,3 @@ some_taken kind n [] d some head ends = absurd (omega arith)
 some_taken kind zero (pair ∷ pairs) d some head ends =
     absurd (let bad : true ≡ false = sym (ap (bytes_eq pair.0) (sym head) ∙ bytes_eq-same pair.0) ∙ ends in cc)
 some_taken kind (suc n) (pair ∷ pairs) d some head ends = omega arith
-
--- one pair more of a kind
-pub of_kind-push : (kind : List ℕ) (pairs : Pairs) (pair : List ℕ × List ℕ) → OfKind kind pairs → pair.0 ≡ kind
-    → OfKind kind (pairs ++ pair ∷ [])
-of_kind-push kind [] pair h e = (e, tt)
-of_kind-push kind (x ∷ pairs) pair h e = (h.0, of_kind-push kind pairs pair h.1 e)

@@ -5,7 +5,7 @@ use Rattle.std.specs.Set.{is_member}
 use Rattle.std.proofs.lemmas.List.Folds.{list_any-append}
 use Rattle.std.proofs.lemmas.List.Sorted.{list_any-IsPermutation}
 use Rattle.mime_base.specs.Format.SuffixTree.{front_count, fronts}
-use Rattle.mime_store.proofs.SuffixTreeLemmas.Unique.{distinct_same}
+use Rattle.mime_base.proofs.FormatLemmas.DistinctTexts.{distinct_same}
 
 -- what is a front of some path is a front of one of them
 member_any : (q : List ℕ) (paths : List (List ℕ))

@@ -1,9 +1,9 @@
 -- Sorted endings rise.
-use Rattle.std.proofs.Common.{◌≡◌, ℕ, suc, ◌+◌, ◌<◌, true, false, List, [], ◌∷◌, inl, inr, ⊎_elim, length, get_or, map, refl, subst}
-use Rattle.std.proofs.Common.{arith, Bool}
+use Rattle.std.proofs.Common.{◌≡◌, ℕ, ◌<◌, true, false, List, [], ◌∷◌, inl, inr, ⊎_elim, length, get_or, map, refl, subst, arith}
 use Rattle.std.specs.List.Sorted.{IsSortedBy}
 use Rattle.std.proofs.lemmas.Bool.{cases_order, eq-eqb, lt-ltb, le-ltb}
 use Rattle.mime_base.specs.Format.Sorted.{text_lt}
+use Rattle.mime_base.proofs.FormatLemmas.TextOrder.{sorted_tail}
 use Rattle.mime_store.specs.SuffixTree.{PathLe, Rises, ending_entry, ending_path}
 use Rattle.mime_store.proofs.RulesLemmas.Texts.{NoZero-from_test}
 use Rattle.mime_store.specs.declared.ending.Ending.{Ending}
@@ -21,12 +21,6 @@ path_le (x ∷ xs) (y ∷ ys) h =
     (λ o. ⊎_elim (λ (lt : x < y). inl lt)
     (λ (lt : y < x). absurd (let bad : true ≡ false = rw (lt-ltb y x lt) at h in cc)) o)
     (cases_order x y)
-
--- what stands after the first of a sorted list is sorted
-pub sorted_tail : {X : Type 0} (lt : X → X → Bool) (x : X) (xs : List X) → IsSortedBy lt (x ∷ xs) → IsSortedBy lt xs
-sorted_tail lt x xs s k d low within =
-    let e : suc k + 1 ≡ suc (k + 1) = omega arith in
-    subst (λ (n : ℕ). lt (get_or (x ∷ xs) n d) (get_or xs k d) ≡ false) e (s (suc k) d (omega arith) (omega (arith, within)))
 
 -- sorted endings rise from one before them
 rises_from : (before : List ℕ) (xs : List Ending) → ((d : Ending) → 0 < length xs → PathLe before (ending_path (get_or xs 0 d)))

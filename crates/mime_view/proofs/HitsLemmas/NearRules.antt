@@ -11,9 +11,9 @@ use Rattle.mime_base.specs.Format.SuffixTree.{fronts}
 use Rattle.mime_base.specs.Matching.Folding.{compared, compared_byte, folded}
 use Rattle.mime_base.specs.Matching.Matches.{rule_matches}
 use Rattle.mime_base.specs.declared.database.rule.GlobRule.{GlobRule}
+use Rattle.mime_base.proofs.KeptLemmas.PlainPatterns.{literal_class, tree_pattern}
 use Rattle.mime_view.proofs.SuffixTreeLemmas.PathFronts.{among_fronts, is_among}
 use Rattle.mime_view.proofs.HitsLemmas.PlainMatches.{ending-matches, literal-matches, starts_with-is}
-use Rattle.mime_view.proofs.HitsLemmas.RulePlaces.{literal_class, tree_pattern}
 
 -- what was folded stays as it is
 folded-folded : (b : ℕ) → folded (folded b) ≡ folded b

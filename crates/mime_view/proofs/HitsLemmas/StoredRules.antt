@@ -1,6 +1,6 @@
--- The stored text of a rule has the class, the length and the matches of its pattern; its weight and flags read back.
+-- The stored text of a rule has the matches and the rank of its pattern; its weight and flags read back.
 use Rattle.std.proofs.Common.{◌≡◌, ℕ, ◌+◌, ◌<◌, ◌%◌, ◌/◌, ◌==◌, Bool, true, false}
-use Rattle.std.proofs.Common.{cond, inl, lit<, List, [], ◌∷◌, length, refl, ap, ap₂, arith}
+use Rattle.std.proofs.Common.{cond, List, [], ◌∷◌, length, refl, ap, ap₂, arith}
 use Rattle.std.proofs.lemmas.Bool.Decides.{nat_tests}
 use Rattle.std.proofs.lemmas.List.{length-map}
 use Rattle.mime_base.specs.Format.Stored.{stored_text, weight_and_flags}
@@ -10,7 +10,7 @@ use Rattle.mime_base.specs.Matching.Folding.{compared, compared_byte}
 use Rattle.mime_base.specs.Matching.Matches.{matches, rule_matches}
 use Rattle.mime_base.specs.declared.database.rule.GlobRule.{GlobRule}
 use Rattle.mime_base.specs.Matching.Elements.{elements}
-use Rattle.mime_base.proofs.MatchingLemmas.Sets.{compared_byte-mark, is_literal_text-compared}
+use Rattle.mime_base.proofs.KeptLemmas.ByText.{class_of-compared}
 
 -- a byte that was compared is compared as it is
 compared_byte-again : (cased : Bool) (b : ℕ) → compared_byte cased (compared_byte cased b) ≡ compared_byte cased b
@@ -21,17 +21,6 @@ compared_byte-again false b = grind (arith, nat_tests)
 compared-again : (cased : Bool) (text : List ℕ) → compared cased (compared cased text) ≡ compared cased text
 compared-again cased [] = refl
 compared-again cased (b ∷ text) = ap₂ (λ (x : ℕ) (xs : List ℕ). x ∷ xs) (compared_byte-again cased b) (compared-again cased text)
-
--- what is compared of a text has its class
-pub class_of-compared : (cased : Bool) (text : List ℕ) → class_of (compared cased text) ≡ class_of text
-unfolding class_of
-class_of-compared cased [] = refl
-class_of-compared cased (b ∷ rest) =
-    rw (
-      is_literal_text-compared cased (b ∷ rest),
-      compared_byte-mark cased b 42 (inl (lit< tt)),
-      is_literal_text-compared cased rest,
-    ) refl
 
 -- a name matches the stored text where it matches the pattern
 pub rule_matches-stored : (rule : GlobRule) (name : List ℕ)

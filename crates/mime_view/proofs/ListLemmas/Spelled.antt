@@ -11,7 +11,7 @@ use Rattle.mime_base.specs.Format.Pairs.{IsPair, PairsAt}
 use Rattle.mime_base.specs.Format.Records.{RecordsAt}
 use Rattle.mime_base.specs.Format.Sorted.{IsSortedByText, text_lt, with_key}
 use Rattle.mime_view.specs.Pairs.{ReadsPairEntries, ReadsPairs, looked_up}
-use Rattle.mime_view.specs.Lists.{AreSorted, is_less}
+use Rattle.mime_view.specs.Lists.{AreSorted}
 use Rattle.mime_view.proofs.ListLemmas.PairTexts.{Pair, names, none}
 use Rattle.mime_view.proofs.ListLemmas.Records.{count_read, first_read, list_inside, second_read, text_read}
 
@@ -52,7 +52,7 @@ names_sorted entries sorted k d low within =
     let size = length-map entries (λ (pair : Pair). pair.0) in
     let name : (i : ℕ) → i < length entries → get_or (names entries) i d ≡ (get_or entries i none).0 =
     λ i l. get_or-map (λ (pair : Pair). pair.0) entries i none d l in
-    ap₂ is_less (name (k + 1) (omega arith)) (name k (omega arith)) ∙ sorted k none low (omega arith)
+    ap₂ text_lt (name (k + 1) (omega arith)) (name k (omega arith)) ∙ sorted k none low (omega arith)
 
 -- a list of pairs that stands is read as its entries
 pub pairs_reads : (c : List ℕ) (at : ℕ) (pairs : List Pair) → (stand : PairsAt (Stands c) at pairs) → ReadsPairs c at stand.entries

@@ -7,11 +7,10 @@ use Rattle.std.proofs.lemmas.List.Elements.{All-cons, All-head, All-nil, All-tai
 use Rattle.mime_base.specs.Database.Limits.{KeepsLimits}
 use Rattle.mime_base.specs.Format.Sorted.{IsSortedByText, with_key}
 use Rattle.mime_base.specs.Format.Stored.{reversed_ending, tree_rules}
-use Rattle.mime_base.specs.Format.Tree.{InOrder, Tree, leaves_at}
+use Rattle.mime_base.specs.Format.Tree.{InOrder, Tree, leaves_at, rules_in}
 use Rattle.mime_base.specs.declared.database.rule.GlobRule.{GlobRule}
-use Rattle.mime_view.specs.Listing.Reads.{rules_in}
+use Rattle.mime_base.proofs.FormatLemmas.TreeLeaves.{Leaf, leaves, leaves-at, path_of, rule_of, rules-leaves}
 use Rattle.mime_view.proofs.HitsLemmas.SameKeys.{bytes_eq-same, first_of, others, permuted}
-use Rattle.mime_view.proofs.SuffixTreeLemmas.TreeLeaves.{Leaf, leaves, leaves-at, path_of, rule_of, rules-leaves}
 use Rattle.mime_view.proofs.SuffixTreeLemmas.TreeOrder.{Keyed, ends_before, leaves_sorted}
 use Rattle.mime_view.proofs.SuffixTreeLemmas.EndedRules.{IsEnded, of_path}
 

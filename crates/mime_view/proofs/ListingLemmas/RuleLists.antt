@@ -11,11 +11,11 @@ use Rattle.mime_base.specs.Format.Rules.{GlobsAt, LiteralsAt}
 use Rattle.mime_base.specs.Format.Sorted.{IsSortedByText}
 use Rattle.mime_base.specs.Format.Stored.{glob_rules, is_in_globs, is_in_literals, literal_rules, reversed_ending, stored_text, tree_rules}
 use Rattle.mime_base.specs.Format.SuffixTree.{SuffixTreeAt, tree_size}
-use Rattle.mime_base.specs.Format.Tree.{Tree, node_count}
+use Rattle.mime_base.specs.Format.Tree.{Tree, node_count, rules_in}
 use Rattle.mime_base.specs.declared.database.rule.GlobRule.{GlobRule}
 use Rattle.mime_view.specs.Listing.{IsListing, PlainListed, listed_rule}
 use Rattle.mime_view.specs.Listing.Faults.{IsListingFault, IsListsFault}
-use Rattle.mime_view.specs.Listing.Reads.{ReadsListedRules, ReadsSuffixTree, rules_in}
+use Rattle.mime_view.specs.Listing.Reads.{ReadsListedRules, ReadsSuffixTree}
 use Rattle.mime_view.specs.declared.fault.CacheFault.{CacheFault}
 use Rattle.mime_view.proofs.ListLemmas.Headers.{header_read}
 use Rattle.mime_view.proofs.ListLemmas.Records.{numbers_read, record_inside}

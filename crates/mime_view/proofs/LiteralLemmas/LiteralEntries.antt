@@ -20,11 +20,10 @@ use Rattle.mime_base.specs.Matching.Folding.{compared_byte}
 use Rattle.mime_base.specs.declared.database.rule.GlobRule.{GlobRule}
 use Rattle.mime_base.specs.declared.kept.class.Class.{Class}
 use Rattle.mime_base.specs.declared.kept.class.Class.TheVariants.{Full, Literal, Suffix}
+use Rattle.mime_base.proofs.FormatLemmas.TextOrder.{less_differs, neither_less, same_less, text_order}
 use Rattle.std.specs.List.Sorted.{IsSortedBy}
-use Rattle.mime_view.specs.Lists.{AreSorted, KeysAt, SplitsAt, is_less}
+use Rattle.mime_view.specs.Lists.{AreSorted, KeysAt, SplitsAt}
 use Rattle.mime_view.specs.Literals.{AreRun, IsLiteral, ReadsRules, of_text}
-use Rattle.mime_view.proofs.SearchLemmas.Lookups.{less_differs, neither_less, same_less}
-use Rattle.mime_view.proofs.SearchLemmas.Places.{text_order}
 use Rattle.mime_view.proofs.ListLemmas.Records.{first_read, numbers_read, second_read, text_read}
 
 -- the stored texts of rules
@@ -79,7 +78,7 @@ texts_sorted rules sorted k d low within =
     let size = length-map rules stored_text in
     let text : (i : ℕ) → i < length rules → get_or (texts_of rules) i d ≡ stored_text (get_or rules i none) =
     λ i l. get_or-map stored_text rules i none d l in
-    ap₂ is_less (text (k + 1) (omega arith)) (text k (omega arith)) ∙ sorted k none low (omega arith)
+    ap₂ text_lt (text (k + 1) (omega arith)) (text k (omega arith)) ∙ sorted k none low (omega arith)
 
 -- a class is that of the literal list
 literal_class : (class : Class) → is_literal_class class ≡ true → class ≡ Literal
@@ -105,7 +104,7 @@ module _ (key : List ℕ) where
       rw (others 0 (omega arith)) (none_of_text rules (λ i l. others (suc i) (omega arith)))
 
   -- rules of lesser texts are skipped
-  pub of_text-from : (place : ℕ) (rules : List GlobRule) → ((i : ℕ) → i < place → is_less (get_or (texts_of rules) i []) key ≡ true)
+  pub of_text-from : (place : ℕ) (rules : List GlobRule) → ((i : ℕ) → i < place → text_lt (get_or (texts_of rules) i []) key ≡ true)
       → place ≤ length rules → of_text key (drop place rules) ≡ of_text key rules
   of_text-from zero rules less within = refl
   of_text-from (suc place) [] less within = refl
@@ -114,16 +113,16 @@ module _ (key : List ℕ) where
       (of_text-from place rules (λ i l. less (suc i) (omega arith)) (omega arith))
 
   -- after a text that is not less and is another, a text that is not less than it is another
-  after_other : (first later : List ℕ) → is_less first key ≡ false → is_less later first ≡ false → bytes_eq first key ≡ false
+  after_other : (first later : List ℕ) → text_lt first key ≡ false → text_lt later first ≡ false → bytes_eq first key ≡ false
       → bytes_eq later key ≡ false
   after_other first later low far other = false_from_ne_true _ (λ same.
-      let back : is_less key first ≡ false = sym (same_less later key first same) ∙ far in
+      let back : text_lt key first ≡ false = sym (same_less later key first same) ∙ far in
       true≢false (sym (neither_less first key low back) ∙ other))
 
   -- rules of texts that are not less and rise are a run
   run_of : (rules : List GlobRule)
-      → ((i j : ℕ) → i ≤ j → j < length rules → is_less (get_or (texts_of rules) j []) (get_or (texts_of rules) i []) ≡ false)
-      → ((i : ℕ) → i < length rules → is_less (get_or (texts_of rules) i []) key ≡ false) → AreRun key rules
+      → ((i j : ℕ) → i ≤ j → j < length rules → text_lt (get_or (texts_of rules) j []) (get_or (texts_of rules) i []) ≡ false)
+      → ((i : ℕ) → i < length rules → text_lt (get_or (texts_of rules) i []) key ≡ false) → AreRun key rules
   run_of [] far low = tt
   run_of (rule ∷ rules) far low = (
     λ other. none_of_text rules (λ i l. after_other (stored_text rule) (get_or (texts_of rules) i [])
@@ -133,8 +132,8 @@ module _ (key : List ℕ) where
 
   -- from a place on where none is less, the rules are a run
   run_from : (place : ℕ) (rules : List GlobRule)
-      → ((i j : ℕ) → i ≤ j → j < length rules → is_less (get_or (texts_of rules) j []) (get_or (texts_of rules) i []) ≡ false)
-      → ((i : ℕ) → place ≤ i → i < length rules → is_less (get_or (texts_of rules) i []) key ≡ false) → AreRun key (drop place rules)
+      → ((i j : ℕ) → i ≤ j → j < length rules → text_lt (get_or (texts_of rules) j []) (get_or (texts_of rules) i []) ≡ false)
+      → ((i : ℕ) → place ≤ i → i < length rules → text_lt (get_or (texts_of rules) i []) key ≡ false) → AreRun key (drop place rules)
   run_from zero rules far low = run_of rules far (λ i l. low i (omega arith) l)
   run_from (suc place) [] far low = tt
   run_from (suc place) (rule ∷ rules) far low =
@@ -146,5 +145,5 @@ module _ (key : List ℕ) where
   run_sorted place rules sorted splits =
       let size = length-map rules stored_text in
       run_from place rules
-      (λ i j l w. sorted_far is_less text_order (texts_of rules) sorted i j [] l (omega arith))
+      (λ i j l w. sorted_far text_lt text_order (texts_of rules) sorted i j [] l (omega arith))
       (λ i l w. splits.not_less i l (omega arith))

@@ -7,6 +7,7 @@ use Rattle.mime_base.specs.Database.Subclass.{parents}
 use Rattle.mime_base.specs.Format.Parents.{IsName, IsSubclass, ParentsAt}
 use Rattle.mime_base.specs.Format.Header.{HeaderAt, Offsets}
 use Rattle.mime_base.specs.Format.Records.{CardsAt, ListAt, RecordsAt}
+use Rattle.mime_base.proofs.FormatLemmas.Subclasses.{kinds_have_parents, kinds_once}
 use Rattle.mime_view.specs.Lists.{KeysAt}
 use Rattle.mime_view.specs.Parents.{ReadsParents, ReadsTexts, StopsParents, TakesParents, is_marked, parents_at}
 use Rattle.mime_view.specs.declared.fault.CacheFault.{CacheFault}
@@ -14,7 +15,7 @@ use Rattle.mime_view.specs.declared.parents.Parents.{Parents}
 use Rattle.mime_view.specs.declared.spending.Spending.{Spending}
 use Rattle.mime_view.proofs.ListLemmas.Headers.{parents_read}
 use Rattle.mime_view.proofs.ListLemmas.Records.{count_read, first_read, list_inside, record_at, second_read, text_read}
-use Rattle.mime_view.proofs.ParentsLemmas.Subclasses.{kinds_have_parents, kinds_once, others_have_none}
+use Rattle.mime_view.proofs.ParentsLemmas.Subclasses.{others_have_none}
 
 -- types, each with one of its parents
 abbrev Pairs : Type 0

@@ -3,16 +3,11 @@ use Rattle.std.proofs.Common.{◌≡◌, ℕ, zero, suc, ◌+◌, ◌-◌, ◌*�
 use Rattle.std.proofs.Common.{length, get_or, Less, Ordering, Equal, Greater, true≢false, refl, sym, ap, ◌∙◌, arith}
 use Rattle.std.specs.Prelude.{◌≢◌}
 use Rattle.std.specs.Ordering.{is_lt}
-use Rattle.std.specs.Cmp.{IsStrictWeakOrder}
 use Rattle.std.proofs.lemmas.Bool.{true_from_ne_false}
-use Rattle.std.proofs.lemmas.Cmp.{nat_list_cmp_total}
-use Rattle.std.proofs.lemmas.List.MinMax.{ranks_by}
 use Rattle.std.proofs.lemmas.List.Sorted.{sorted_far}
-use Rattle.mime_view.specs.Lists.{AreSorted, HasText, IsPlace, KeysAt, SplitsAt, is_less}
-
--- texts are ordered by bytes
-pub text_order : IsStrictWeakOrder is_less
-text_order = ranks_by nat_list_cmp_total (λ (text : List ℕ). text)
+use Rattle.mime_base.specs.Format.Sorted.{text_lt}
+use Rattle.mime_base.proofs.FormatLemmas.TextOrder.{text_order}
+use Rattle.mime_view.specs.Lists.{AreSorted, HasText, IsPlace, KeysAt, SplitsAt}
 
 -- the key i stands at the record i
 pub key_at : (c : List ℕ) (at size : ℕ) (keys : List (List ℕ)) (i : ℕ) → KeysAt c at size keys → i < length keys
@@ -36,16 +31,16 @@ pub splits-found : (c : List ℕ) (first size count : ℕ) (key : List ℕ) (pla
 splits-found c first size count key place keys n is stand sorted =
     let within = is.within in
     let text : ℕ → List ℕ = λ i. get_or keys i [] in
-    let last : 0 < place → is_less (text (place - 1)) key ≡ true =
+    let last : 0 < place → text_lt (text (place - 1)) key ≡ true =
     λ some. ap is_lt (is.before (place - 1) _ (omega arith) (key_at c first size keys (place - 1) stand (omega arith))) in
-    let here : place < count → is_less (text place) key ≡ false =
+    let here : place < count → text_lt (text place) key ≡ false =
     λ l. no_less _ (is.after _ l (key_at c first size keys place stand (omega arith))) in
     record {
       within = omega arith;
       less = λ i l. true_from_ne_false _ (λ no.
-          let far = sorted_far is_less text_order keys sorted i (place - 1) [] (omega arith) (omega arith) in
+          let far = sorted_far text_lt text_order keys sorted i (place - 1) [] (omega arith) (omega arith) in
           true≢false (sym (last (omega arith)) ∙ text_order.chain (text (place - 1)) (text i) key far no));
       not_less = λ i g l.
-          let far = sorted_far is_less text_order keys sorted place i [] g l in
+          let far = sorted_far text_lt text_order keys sorted place i [] g l in
           text_order.chain (text i) (text place) key far (here (omega arith));
     }

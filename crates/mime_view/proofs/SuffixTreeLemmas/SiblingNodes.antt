@@ -2,10 +2,10 @@
 use Rattle.std.proofs.Common.{◌≡◌, ℕ, ◌+◌, ◌<◌, ◌≤◌, List, [], ◌∷◌, ◌++◌, length, refl, sym, ap, ◌∙◌, arith}
 use Rattle.std.proofs.lemmas.List.{append-nil}
 use Rattle.mime_base.specs.Cache.Bytes.{field}
-use Rattle.mime_base.specs.Format.Tree.{Tree, bare, leaf, node, node_count, sibling_count}
+use Rattle.mime_base.specs.Format.Tree.{Tree, bare, leaf, node, node_count, rules_in, sibling_count}
 use Rattle.mime_base.specs.declared.database.rule.GlobRule.{GlobRule}
 use Rattle.mime_view.specs.Listing.{IsRow}
-use Rattle.mime_view.specs.Listing.Reads.{ReadsListedLeaf, ReadsListedTree, rules_in}
+use Rattle.mime_view.specs.Listing.Reads.{ReadsListedLeaf, ReadsListedTree}
 use Rattle.mime_view.specs.Magic.{LiesBlock}
 use Rattle.mime_view.specs.declared.rules.row.Row.{Row}
 use Rattle.mime_view.specs.declared.spending.Spending.{Spending}

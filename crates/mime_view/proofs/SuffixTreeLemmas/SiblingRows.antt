@@ -2,9 +2,9 @@
 use Rattle.std.proofs.Common.{◌≡◌, ℕ, ◌+◌, ◌*◌, ◌<◌, ◌≤◌, List, [], ◌∷◌, ◌++◌, append_assoc, refl, sym, ap, ◌∙◌, arith}
 use Rattle.std.specs.Prelude.{map}
 use Rattle.std.proofs.lemmas.List.{append-nil, map-append}
-use Rattle.mime_base.specs.Format.Tree.{Tree, bare, leaf, node, node_count, sibling_count}
+use Rattle.mime_base.specs.Format.Tree.{Tree, bare, leaf, node, node_count, rules_in, sibling_count}
 use Rattle.mime_view.specs.Listing.{PlainListed, listed_rule}
-use Rattle.mime_view.specs.Listing.Reads.{ReadsListedTree, rules_in}
+use Rattle.mime_view.specs.Listing.Reads.{ReadsListedTree}
 
 -- what is left of the siblings from the i-th on; `old` and r0 are the list and the records before all, `now` and r those now
 pub record Left (c : List ℕ) (first count : ℕ) (ending : List ℕ) (tree : Tree) (old : List PlainListed) (r0 i : ℕ)

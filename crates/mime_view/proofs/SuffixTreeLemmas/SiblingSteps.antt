@@ -2,10 +2,9 @@
 use Rattle.std.proofs.Common.{◌≡◌, ℕ, ◌+◌, ◌≤◌, List, ◌++◌, ap, sym, ◌∙◌, arith}
 use Rattle.std.specs.Prelude.{Err, IsErrAnd, Ok, Result, map}
 use Rattle.std.proofs.lemmas.Result.{IfOk-weaker, err_from_is_err_and}
-use Rattle.mime_base.specs.Format.Tree.{Tree, node_count, sibling_count}
+use Rattle.mime_base.specs.Format.Tree.{Tree, node_count, rules_in, sibling_count}
 use Rattle.mime_base.specs.declared.database.rule.GlobRule.{GlobRule}
 use Rattle.mime_view.specs.Listing.{AddsRules, PlainListed, listed_rule}
-use Rattle.mime_view.specs.Listing.Reads.{rules_in}
 use Rattle.mime_view.specs.Spending.{Gives}
 use Rattle.mime_view.specs.declared.fault.CacheFault.{CacheFault}
 use Rattle.mime_view.specs.declared.fault.CacheFault.TheVariants.{OutOfMemory}

@@ -9,7 +9,7 @@ use Rattle.mime_base.specs.Format.Sorted.{text_lt}
 use Rattle.mime_base.specs.Format.Stored.{reversed_ending}
 use Rattle.mime_base.specs.Format.Tree.{InOrder, Tree, bare, leaf, node}
 use Rattle.mime_base.specs.declared.database.rule.GlobRule.{GlobRule}
-use Rattle.mime_view.proofs.SuffixTreeLemmas.TreeLeaves.{Leaf, leaves, path_of, rule_of, under}
+use Rattle.mime_base.proofs.FormatLemmas.TreeLeaves.{Leaf, leaves, path_of, rule_of, under}
 
 -- no text is before the empty one
 not_before_none : (text : List ℕ) → text_lt text [] ≡ false

@@ -9,9 +9,9 @@ use Rattle.mime_base.specs.Cache.Bytes.{Stands, field, fields}
 use Rattle.mime_base.specs.Cache.Texts.{text_at}
 use Rattle.mime_base.specs.Format.Stored.{weight_and_flags}
 use Rattle.mime_base.specs.Format.Tree.{InOrder, Tree, TreeAt, bare, leaf, node, sibling_count}
+use Rattle.mime_base.proofs.FormatLemmas.TreeLeaves.{Leaf, leaves, length-leaves, path_of, rule_of, under}
 use Rattle.mime_view.specs.Listing.Reads.{ReadsListedTree}
 use Rattle.mime_view.proofs.ListLemmas.Records.{numbers_read, record_inside, text_read}
-use Rattle.mime_view.proofs.SuffixTreeLemmas.TreeLeaves.{Leaf, leaves, length-leaves, path_of, rule_of, under}
 use Rattle.mime_view.proofs.SuffixTreeLemmas.EndedRules.{IsEnded}
 
 -- siblings lie in the cache

@@ -1,5 +1,5 @@
 -- The literal list, the suffix tree and the glob list as they are read by a program that lists them.
-use Rattle.std.specs.Prelude.{◌≡◌, ℕ, ◌+◌, ◌*◌, ◌<◌, ◌≤◌, List, [], ◌∷◌, ◌++◌, length, Ok}
+use Rattle.std.specs.Prelude.{◌≡◌, ℕ, ◌+◌, ◌*◌, ◌<◌, ◌≤◌, List, [], ◌∷◌, length, Ok}
 use Rattle.mime_base.specs.Cache.Bytes.{field}
 use Rattle.mime_base.specs.Cache.Texts.{text_at}
 use Rattle.mime_base.specs.Format.Stored.{stored_text, weight_and_flags}
@@ -24,12 +24,6 @@ pub record ReadsListedRules (c : List ℕ) (at : ℕ) (rules : List GlobRule) : 
   pub count : field c at 0 ≡ length rules
   pub inside : at + 4 + 12 * length rules ≤ length c
   pub entries : ReadsEntries c (at + 4) rules
-
--- the rules of the leaves, a node's before those of the siblings after it
-abbrev pub rules_in : Tree → List GlobRule
-rules_in bare = []
-rules_in (leaf rule rest) = rule ∷ rules_in rest
-rules_in (node character below rest) = rules_in below ++ rules_in rest
 
 -- the record at `at` is a leaf below an ending, which is that of its rule
 pub record ReadsListedLeaf (c : List ℕ) (at : ℕ) (ending : List ℕ) (rule : GlobRule) : Type 0 where

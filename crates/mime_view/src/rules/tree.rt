@@ -5,11 +5,11 @@
 
 ghost use Rattle.std.specs.Prelude.{◌≡◌, ◌⊎◌, ℕ, ◌+◌, ◌*◌, ◌^◌, ◌<◌, ◌≤◌, [], ◌∷◌, ◌++◌, All, length, OnOk, IfErr, MatchResult};
 ghost use Rattle.mime_base.specs.Cache.Bytes.{field};
-ghost use Rattle.mime_base.specs.Format.Tree.{Tree, node_count, sibling_count};
+ghost use Rattle.mime_base.specs.Format.Tree.{Tree, node_count, rules_in, sibling_count};
 ghost use Rattle.mime_base.specs.declared.database.rule.GlobRule.{GlobRule};
 ghost use Rattle.mime_view.specs.Listing.{Adds, AddsRules, IsListed, listed_rule};
 ghost use Rattle.mime_view.specs.Listing.Faults.{IsSiblingsFault, IsListedTreeFault};
-ghost use Rattle.mime_view.specs.Listing.Reads.{ReadsListedLeaf, ReadsSuffixTree, ReadsListedTree, rules_in};
+ghost use Rattle.mime_view.specs.Listing.Reads.{ReadsListedLeaf, ReadsSuffixTree, ReadsListedTree};
 ghost use Rattle.mime_view.specs.Listing.Sources.{AddsSome, IsLeafRule};
 ghost use Rattle.mime_view.specs.Listing.Walks.{ListsSiblings, ListsTree};
 ghost use Rattle.mime_view.specs.Lists.{IsNoText};

@@ -1,5 +1,6 @@
 use Rattle.std.proofs.Common.{arith, map}
-use Rattle.mime_store.specs.Runs.{AreRuns, plain_run}
+use Rattle.mime_base.specs.Format.Runs.{AreRuns}
+use Rattle.mime_store.specs.Runs.{plain_run}
 use Rattle.mime_store.specs.Views.{pair_texts}
 use Rattle.mime_store.proofs.CacheLemmas.Spelled.{parts_room-is}
 use Rattle.mime_store.proofs.cache.write_cache.Goals as goal

@@ -1,8 +1,9 @@
 use Rattle.std.proofs.Common.{rules}
 use Rattle.std.proofs.lemmas.List.Sorted.{ranks_by, answers_always}
 use Rattle.std.proofs.lemmas.Cmp.{nat_list_cmp_total}
+use Rattle.mime_base.specs.Format.Runs.{first_text}
 use Rattle.mime_base.specs.Format.Sorted.{text_lt}
-use Rattle.mime_store.specs.Views.{first_text, pair_texts}
+use Rattle.mime_store.specs.Views.{pair_texts}
 use Rattle.mime_store.specs.declared.text_pair.TextPair.{TextPair}
 use Rattle.mime_store.proofs.RulesLemmas.Sorting.{sorted_by_text}
 use Rattle.mime_store.proofs.pairs.sort_pairs.Goals as goal

@@ -1,5 +1,5 @@
 use Rattle.std.proofs.Common.{◌≡◌, map, take}
-use Rattle.mime_store.specs.Runs.{OfKind}
+use Rattle.mime_base.specs.Format.Runs.{OfKind}
 use Rattle.mime_store.specs.Views.{pair_texts}
 use Rattle.mime_store.proofs.parents.run_length.Given as goal
 

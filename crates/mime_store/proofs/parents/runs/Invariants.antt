@@ -1,5 +1,6 @@
 use Rattle.std.proofs.Common.{◌-◌, ◌≤◌, List, ◌++◌, drop, length, map}
-use Rattle.mime_store.specs.Runs.{AreRuns, PlainRun, plain_run}
+use Rattle.mime_base.specs.Format.Runs.{AreRuns, PlainRun}
+use Rattle.mime_store.specs.Runs.{plain_run}
 use Rattle.mime_store.specs.Views.{pair_texts}
 use Rattle.mime_store.proofs.parents.runs.Given as goal
 

@@ -5,9 +5,8 @@ use Rattle.std.proofs.lemmas.List.{map-append}
 use Rattle.std.proofs.lemmas.List.Elements.{filter-append}
 use Rattle.std.proofs.lemmas.Simd.{map-map}
 use Rattle.mime_base.specs.Format.Sorted.{with_key}
-use Rattle.mime_base.specs.Format.Tree.{Tree, bare, leaf, leaf_count, leaves_at, node}
+use Rattle.mime_base.specs.Format.Tree.{Tree, bare, leaf, leaf_count, leaves_at, node, rules_in}
 use Rattle.mime_base.specs.declared.database.rule.GlobRule.{GlobRule}
-use Rattle.mime_view.specs.Listing.Reads.{rules_in}
 
 -- a path of characters, and the rule to which it leads
 abbrev pub Leaf : Type 0

@@ -3,19 +3,27 @@ use Rattle.std.proofs.Common.{◌≡◌, ℕ, zero, suc, ◌+◌, ◌<◌, Bool,
 use Rattle.std.proofs.Common.{get_or, map, refl, sym, ap, subst, ◌∙◌, arith, bytes_eq, IsPermutation}
 use Rattle.std.specs.List.Sorted.{IsSortedBy}
 use Rattle.std.specs.Set.{is_member, unique_keys}
+use Rattle.std.proofs.lemmas.Cmp.{nat_list_eq_equiv}
 use Rattle.std.proofs.lemmas.List.Sorted.{IsPermutation-map, list_any-IsPermutation}
 use Rattle.mime_base.specs.Format.Parents.{subclasses}
+use Rattle.mime_base.specs.Format.Runs.{AreRuns, OfKind, PlainRun, first_text}
 use Rattle.mime_base.specs.Format.Sorted.{text_lt}
-use Rattle.mime_store.specs.Runs.{AreRuns, OfKind, PlainRun}
-use Rattle.mime_store.specs.Views.{first_text}
-use Rattle.mime_store.proofs.SuffixTreeLemmas.Rising.{sorted_tail}
-use Rattle.mime_store.proofs.ParentsLemmas.Runs.{by_first}
-use Rattle.mime_store.proofs.RulesLemmas.Sorting.{bytes_eq-same}
-use Rattle.mime_store.proofs.SuffixTreeLemmas.Unique.{distinct_permutation, unique_distinct, unique_member}
+use Rattle.mime_base.proofs.FormatLemmas.DistinctTexts.{distinct_permutation, unique_distinct, unique_member}
+use Rattle.mime_base.proofs.FormatLemmas.TextOrder.{sorted_tail}
 
 -- pairs of texts
 abbrev pub Pairs : Type 0
 Pairs = List (List ℕ × List ℕ)
+
+-- by which two pairs are compared
+abbrev pub by_first : List ℕ × List ℕ → List ℕ × List ℕ → Bool
+by_first left right = text_lt left.0 right.0
+
+-- one pair more of a kind
+pub of_kind-push : (kind : List ℕ) (pairs : Pairs) (pair : List ℕ × List ℕ) → OfKind kind pairs → pair.0 ≡ kind
+    → OfKind kind (pairs ++ pair ∷ [])
+of_kind-push kind [] pair h e = (e, tt)
+of_kind-push kind (x ∷ pairs) pair h e = (h.0, of_kind-push kind pairs pair h.1 e)
 
 -- the first texts of a run and what comes after, each once
 unique_run : (kind : List ℕ) (run rest : Pairs) → 0 < length run → OfKind kind run
@@ -26,13 +34,13 @@ unique_run kind (pair ∷ []) rest some of none = rw (of.0, none) refl
 unique_run kind (pair ∷ next ∷ run) rest some of none =
     let again : is_member bytes_eq (map first_text (next ∷ run ++ rest)) pair.0 ≡ true =
     ap (λ (t : Bool). t || is_member bytes_eq (map first_text (run ++ rest)) pair.0)
-    (ap (bytes_eq pair.0) (of.1.0 ∙ sym of.0) ∙ bytes_eq-same pair.0) in
+    (ap (bytes_eq pair.0) (of.1.0 ∙ sym of.0) ∙ nat_list_eq_equiv.refl pair.0) in
     ap (λ (t : Bool). cond t (unique_keys bytes_eq (map first_text (next ∷ run ++ rest)))
     (pair.0 ∷ unique_keys bytes_eq (map first_text (next ∷ run ++ rest)))) again
     ∙ unique_run kind (next ∷ run) rest (omega arith) of.1 none
 
 -- the first texts of the runs are those of the pairs, each once
-pub kinds_unique : (runs : List PlainRun) (pairs : Pairs) → AreRuns runs pairs
+kinds_unique : (runs : List PlainRun) (pairs : Pairs) → AreRuns runs pairs
     → unique_keys bytes_eq (map first_text pairs) ≡ map (λ run. run.0) runs
 kinds_unique [] pairs h = rw h refl
 kinds_unique (run ∷ runs) pairs h =

@@ -3,20 +3,19 @@ use Rattle.std.proofs.Common.{◌≡◌, ℕ, ◌<◌, Bool, true, false, ◌||�
 use Rattle.std.proofs.Common.{map, refl, sym, ap, subst, ◌∙◌, arith, bytes_eq}
 use Rattle.std.specs.Set.{is_member}
 use Rattle.std.proofs.lemmas.Bool.{cases_Bool}
+use Rattle.std.proofs.lemmas.Cmp.{nat_list_eq_equiv}
 use Rattle.std.proofs.lemmas.List.{append-nil}
+use Rattle.std.proofs.lemmas.List.Elements.{filter-append}
+use Rattle.std.proofs.lemmas.Slice.Eq.{bytes_eq-Decides}
+use Rattle.mime_base.specs.Format.Runs.{AreRuns, OfKind, PlainRun, first_text}
 use Rattle.mime_base.specs.Format.Sorted.{with_key}
-use Rattle.mime_store.specs.Runs.{AreRuns, OfKind, PlainRun}
-use Rattle.mime_store.specs.Views.{first_text}
-use Rattle.mime_store.proofs.ListLemmas.Entries.{filter-append}
-use Rattle.mime_store.proofs.RulesLemmas.Sorting.{bytes_eq-is, bytes_eq-same}
-use Rattle.mime_store.proofs.SuffixTreeLemmas.Unique.{bytes_eq-flips}
-use Rattle.mime_store.proofs.ParentsLemmas.RunsSay.{Pairs}
+use Rattle.mime_base.proofs.FormatLemmas.RunKinds.{Pairs}
 
 -- all pairs of a run have its type
 with_own : (kind : List ℕ) (run : Pairs) → OfKind kind run → with_key first_text kind run ≡ run
 with_own kind [] of = refl
 with_own kind (pair ∷ run) of =
-    let own : bytes_eq pair.0 kind ≡ true = ap (λ (k : List ℕ). bytes_eq k kind) of.0 ∙ bytes_eq-same kind in
+    let own : bytes_eq pair.0 kind ≡ true = ap (λ (k : List ℕ). bytes_eq k kind) of.0 ∙ nat_list_eq_equiv.refl kind in
     rw own (ap (λ ps. pair ∷ ps) (with_own kind run of.1))
 
 -- none of them has another
@@ -34,7 +33,7 @@ with_none kind (pair ∷ rest) none =
     (let bad : true ≡ false = sym (ap (λ (u : Bool). u || is_member bytes_eq (map first_text rest) kind) t) ∙ none in cc))
     (λ (f : bytes_eq kind pair.0 ≡ false).
     let none' = sym (ap (λ (u : Bool). u || is_member bytes_eq (map first_text rest) kind) f) ∙ none in
-    let f' : bytes_eq pair.0 kind ≡ false = bytes_eq-flips pair.0 kind ∙ f in
+    let f' : bytes_eq pair.0 kind ≡ false = nat_list_eq_equiv.symm pair.0 kind ∙ f in
     rw f' (with_none kind rest none'))
     (cases_Bool (bytes_eq kind pair.0))
 
@@ -48,7 +47,7 @@ kind_member : (kind : List ℕ) (run rest : Pairs) → 0 < length run → OfKind
     → is_member bytes_eq (map first_text (run ++ rest)) kind ≡ true
 kind_member kind [] rest some of = absurd (omega arith)
 kind_member kind (pair ∷ run) rest some of =
-    ap (λ (t : Bool). t || is_member bytes_eq (map first_text (run ++ rest)) kind) (ap (bytes_eq kind) of.0 ∙ bytes_eq-same kind)
+    ap (λ (t : Bool). t || is_member bytes_eq (map first_text (run ++ rest)) kind) (ap (bytes_eq kind) of.0 ∙ nat_list_eq_equiv.refl kind)
 
 -- runs that are whole in what comes after a run are whole in all
 whole_before : (kind : List ℕ) (run rest : Pairs) (runs : List PlainRun) (more : Pairs) → OfKind kind run
@@ -61,7 +60,7 @@ whole_before kind run rest (r ∷ runs) more of none h sub none' w =
     sub r.0 (ap (λ ps. is_member bytes_eq (map first_text ps) r.0) h.1 ∙ kind_member r.0 r.1 h.0 h.2 h.3) in
     let ne : bytes_eq kind r.0 ≡ false =
     ⊎_elim (λ (t : bytes_eq kind r.0 ≡ true). absurd (let bad : true ≡ false = sym has
-    ∙ ap (is_member bytes_eq (map first_text rest)) (sym (bytes_eq-is kind r.0 t)) ∙ none' in cc))
+    ∙ ap (is_member bytes_eq (map first_text rest)) (sym ((bytes_eq-Decides kind r.0).0 t)) ∙ none' in cc))
     (λ (f : bytes_eq kind r.0 ≡ false). f) (cases_Bool (bytes_eq kind r.0)) in
     let sub' : (q : List ℕ) → is_member bytes_eq (map first_text h.0) q ≡ true → is_member bytes_eq (map first_text rest) q ≡ true =
     λ q m. sub q (ap (λ ps. is_member bytes_eq (map first_text ps) q) h.1 ∙ member_right r.1 h.0 q m) in
