@@ -37,7 +37,7 @@ pub struct Pools {
 }
 
 impl Pools {
-    pub fn new(alloc: Global, random: &mut Random) -> Result<Pools, AllocError> {
+    pub fn new(alloc: Global, random: &mut Random) -> Result<Box<Pools>, AllocError> {
         let mut text = Vec::new(alloc);
         for _ in 0..POOL / 6 {
             let length = random.among(&[1, 2, 3, 4, 5, 6, 8, 10]);
@@ -48,7 +48,7 @@ impl Pools {
         for _ in 0..POOL {
             noise.push((random.next() % 256) as u8)?;
         }
-        Ok(Pools { text, noise })
+        Ok(Box::new(alloc, Pools { text, noise })?)
     }
 
     /// A content: 40 of 100 are text, 15 are nothing that magic knows, and the others begin as magic has it.

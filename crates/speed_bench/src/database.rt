@@ -136,8 +136,8 @@ const LINE_COUNTS: [usize; 20] = [1, 1, 1, 1, 1, 1, 1, 1, 1, 1, 1, 1, 1, 1, 2, 2
 const FIRSTS: &[u8; 32] = b"<<<PPP##//[SSf\0\0M-\nOF%BI\x1fC\xffAR*e{";
 
 /// Makes what a database of this shape has, and its text files.
-pub fn make(alloc: Global, random: &mut Random, shape: Shape) -> Result<Made, AllocError> {
-    let mut made = Made {
+pub fn make(alloc: Global, random: &mut Random, shape: Shape) -> Result<Box<Made>, AllocError> {
+    let made = Made {
         kinds: Texts::new(alloc),
         endings: Texts::new(alloc),
         literals: Texts::new(alloc),
@@ -148,6 +148,7 @@ pub fn make(alloc: Global, random: &mut Random, shape: Shape) -> Result<Made, Al
         subclasses: Vec::new(alloc),
         generic_icons: Vec::new(alloc),
     };
+    let mut made = Box::new(alloc, made)?;
     make_kinds(alloc, random, shape.kinds, &mut made.kinds)?;
     add_endings(alloc, random, shape.endings, &mut made)?;
     add_literals(alloc, random, shape.literals, &mut made)?;
