@@ -1,8 +1,8 @@
 //! What `build` stores, and what it says.
 
-use crate::tests::ran::{Said, alike, in_environment, says};
-use crate::{Drawer, Entry, FailingDrawer, Shelf};
+use crate::tests::ran::{alike, says};
 use mime_base::{Database, GlobRule, Pattern, TypeName};
+use mime_fakes::{Drawer, Entry, FailingDrawer, Said, Shelf, in_environment};
 use mime_store::write_cache;
 use mime_tool::{FileFault, Files, Process, run};
 use std::alloc::Global;

@@ -1,7 +1,7 @@
 //! What is printed for standard input, under a name.
 
-use crate::tests::ran::{UNSET, alike};
-use crate::{Entry, Page, Shelf};
+use crate::tests::ran::alike;
+use mime_fakes::{Entry, Page, Shelf, UNSET};
 use mime_tool::{Process, run};
 use std::alloc::Global;
 use std::process::Abort;

@@ -1,7 +1,7 @@
 //! Real files, and files, readers and writers that fail.
 
 use crate::tests::ran::alike;
-use crate::{Disk, Opened, Script, Step};
+use mime_fakes::{Disk, Opened, Script, Step};
 use mime_tool::{FileFault, Files, Sink, SinkFault, Stream, SystemFiles, read_whole};
 use std::alloc::Global;
 use std::io::ErrorKind;

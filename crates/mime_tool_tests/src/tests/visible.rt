@@ -1,8 +1,8 @@
 //! Rules that are never kept, which what works from text files leaves out.
 
-use crate::tests::ran::{Said, alike, says, says_over};
-use crate::{Drawer, Entry, Shelf};
+use crate::tests::ran::{alike, says, says_over};
 use mime_base::Host;
+use mime_fakes::{Drawer, Entry, Said, Shelf};
 use mime_lookup::Order;
 use mime_samples::texts::EMPTY;
 use mime_tool::{DirTexts, answer};

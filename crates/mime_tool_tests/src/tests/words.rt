@@ -1,7 +1,7 @@
 //! Words that are no text.
 
-use crate::tests::ran::{UNSET, alike, in_environment};
-use crate::{Entry, Shelf};
+use crate::tests::ran::alike;
+use mime_fakes::{Entry, Shelf, UNSET, in_environment};
 use mime_tool::{RawWord, run};
 use std::alloc::Global;
 use std::process::Abort;

@@ -1,7 +1,7 @@
 //! Runs over so many FILEs that parts of the cache are read back meanwhile: each line is the one of a run over its FILE alone.
 
-use crate::tests::ran::{alike, ran};
-use crate::{Entry, Shelf};
+use crate::tests::ran::alike;
+use mime_fakes::{Entry, Shelf, ran};
 use mime_samples::caches::SAMPLE;
 use mime_store::write_cache;
 use mime_text::{DirTexts, merge, read_dirs};

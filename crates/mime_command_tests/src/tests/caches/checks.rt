@@ -1,8 +1,8 @@
 //! What `check` prints of caches, and which part it says is not read back.
 
 use super::{Cache, ROW, Row, WHOLE, are_answered, is_answered_over};
-use crate::tests::ran::{Said, alike, ran, says, says_over};
-use crate::{Drawer, Entry, Shelf};
+use crate::tests::ran::{alike, says, says_over};
+use mime_fakes::{Drawer, Entry, Said, Shelf, ran};
 use mime_samples::caches::SAMPLE;
 use std::alloc::Global;
 use std::process::Abort;

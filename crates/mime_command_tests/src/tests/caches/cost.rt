@@ -1,8 +1,8 @@
 //! The cost that `type` reports.
 
-use crate::tests::ran::{alike, ran};
-use crate::{Entry, Shelf};
+use crate::tests::ran::alike;
 use mime_base::Database;
+use mime_fakes::{Entry, Shelf, ran};
 use mime_store::write_cache;
 use mime_text::read_globs2;
 use std::alloc::Global;

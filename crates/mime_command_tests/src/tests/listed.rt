@@ -1,7 +1,7 @@
 //! What is printed for the FILEs of a list.
 
-use crate::tests::ran::{Said, Taken, UNSET, alike, is_taken_over, says_over, sound};
-use crate::{Entry, FailingSink, Shelf};
+use crate::tests::ran::{Taken, alike, is_taken_over, says_over, sound};
+use mime_fakes::{Entry, FailingSink, Said, Shelf, UNSET};
 use mime_lookup::{Script, Step};
 use mime_tool::{Inode, Process, SinkFault, run};
 use std::alloc::Global;
