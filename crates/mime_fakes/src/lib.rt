@@ -18,7 +18,7 @@ mod slate;
 pub use disk::{Disk, Opened};
 pub use drawer::{Drawer, Sheet};
 pub use failing::{FailingDrawer, FailingFiles, FailingShelf, FailingSink};
-pub use ran::{Said, UNSET, in_environment, ran};
+pub use ran::{Outcome, Said, UNSET, ended, ended_by, in_environment, ran};
 pub use reader::{Script, Step};
 pub use shelf::{Entry, Page, Shelf};
 pub use slate::Slate;

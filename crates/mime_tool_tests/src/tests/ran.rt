@@ -1,6 +1,6 @@
 //! Runs of the program that have to end as wanted, and values that have to be alike.
 
-use mime_fakes::{Entry, Said, Shelf, ran};
+use mime_fakes::{Entry, Outcome, Said, Shelf, ended};
 use mime_tool::Files;
 use std::alloc::Global;
 use std::fmt::Debug;
@@ -12,6 +12,14 @@ pub fn alike<T: PartialEq + Debug + Drop>(rt: &impl Abort, name: &str, found: T,
     assert_eq!(rt; found, wanted, "{name}");
 }
 
+/// A run ended with this status and both texts.
+pub fn ends(rt: &impl Abort, name: &str, found: &Outcome, wanted: Said<'_>) -> Result<(), Fail> {
+    alike(rt, name, found.status, wanted.status);
+    alike(rt, name, str::from_utf8(found.out.as_slice())?, wanted.out);
+    alike(rt, name, str::from_utf8(found.err.as_slice())?, wanted.err);
+    Ok(())
+}
+
 /// A run over these files has this status and both texts.
 pub fn says<F: Files>(
     rt: &impl Abort,
@@ -21,13 +29,7 @@ pub fn says<F: Files>(
     files: &mut F,
     wanted: Said<'_>,
 ) -> Result<(), Fail> {
-    let mut out = Vec::new(alloc);
-    let mut err = Vec::new(alloc);
-    let status = ran(alloc, words, files, &mut out, &mut err);
-    alike(rt, name, status, wanted.status);
-    alike(rt, name, str::from_utf8(out.as_slice())?, wanted.out);
-    alike(rt, name, str::from_utf8(err.as_slice())?, wanted.err);
-    Ok(())
+    ends(rt, name, &ended(alloc, words, files), wanted)
 }
 
 /// The same over a shelf.

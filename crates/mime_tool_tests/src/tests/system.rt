@@ -397,13 +397,13 @@ fn are_flushed(rt: &impl Abort) {
     }
 }
 
-const FULL_ONCE: &[Step] = &[Step::Faults(1, ErrorKind::StorageFull)];
+static FULL_ONCE: [Step; 1] = [Step::Faults(1, ErrorKind::StorageFull)];
 
 #[test]
 fn passes_on_each_failure_of_a_stream(rt: HostRuntime) {
     are_put(&rt);
     are_flushed(&rt);
-    let mut full = Stream(Script::new(FULL_ONCE));
+    let mut full = Stream(Script::new(&FULL_ONCE));
     alike(&rt, "a full disk", full.flush(), Err(SinkFault::Failed));
     alike(&rt, "what is flushed again", full.flush(), Ok(()));
 }
