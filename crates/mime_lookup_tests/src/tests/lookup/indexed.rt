@@ -50,6 +50,10 @@ const GENERAL: Texts<'static> = Texts {
     ..TEXTS
 };
 
+static DIRECTORY: [Texts<'static>; 1] = [TEXTS];
+
+static EACH: [Texts<'static>; 4] = [TEXTS, ANY, GENERAL, EMPTY];
+
 /// Names of no byte up to more than an ending has, in both cases, and endings alone.
 static NAMES: [&[u8]; 60] = [
     b"",
@@ -217,7 +221,7 @@ fn all_are_alike(rt: &impl Abort, alloc: Global, database: &Database) {
 
 #[test]
 fn names_and_contents(rt: HostRuntime) {
-    for texts in [TEXTS, ANY, GENERAL, EMPTY] {
+    for &texts in &EACH {
         all_are_alike(&rt, rt.alloc(), &database_of(&rt, rt.alloc(), &[texts]));
     }
 }
@@ -231,7 +235,7 @@ fn unprepared_are_alike(rt: &impl Abort, alloc: Global, database: &Database) {
 
 #[test]
 fn magic_unprepared(rt: HostRuntime) {
-    unprepared_are_alike(&rt, rt.alloc(), &database_of(&rt, rt.alloc(), &[TEXTS]));
+    unprepared_are_alike(&rt, rt.alloc(), &database_of(&rt, rt.alloc(), &DIRECTORY));
 }
 
 /// So have the longest name and one of a byte more.
@@ -243,7 +247,7 @@ fn long_are_alike(rt: &impl Abort, alloc: Global, database: &Database) {
 
 #[test]
 fn long_name(rt: HostRuntime) {
-    long_are_alike(&rt, rt.alloc(), &database_of(&rt, rt.alloc(), &[TEXTS]));
+    long_are_alike(&rt, rt.alloc(), &database_of(&rt, rt.alloc(), &DIRECTORY));
 }
 
 /// A byte at each place near the end of the noted ones, in contents that end before it, at it and after it.
@@ -275,5 +279,5 @@ fn all_places_are_alike(rt: &impl Abort, alloc: Global, database: &Database) {
 
 #[test]
 fn places(rt: HostRuntime) {
-    all_places_are_alike(&rt, rt.alloc(), &database_of(&rt, rt.alloc(), &[TEXTS]));
+    all_places_are_alike(&rt, rt.alloc(), &database_of(&rt, rt.alloc(), &DIRECTORY));
 }

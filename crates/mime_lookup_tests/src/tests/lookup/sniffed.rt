@@ -119,17 +119,17 @@ fn are_alike_by_magic(rt: &impl Abort, alloc: Global, database: &Database) {
 }
 
 /// The same lines, and names of two types.
-const NAMED: Texts<'static> = Texts {
+static NAMED: [Texts<'static>; 1] = [Texts {
     globs2: b"50:t/abce:*.a\n50:t/late:*.a\n",
     aliases: b"t/abc t/other\n",
     subclasses: b"t/second t/late\n",
     magic: HEADS,
     ..EMPTY
-};
+}];
 
 #[test]
 fn magic_alone(rt: HostRuntime) {
-    are_alike_by_magic(&rt, rt.alloc(), &database_of(&rt, rt.alloc(), &[NAMED]));
+    are_alike_by_magic(&rt, rt.alloc(), &database_of(&rt, rt.alloc(), &NAMED));
 }
 
 /// Ranges of which the last place of a later pair is the last that is noted, one more, and far beyond; each value has capitals
