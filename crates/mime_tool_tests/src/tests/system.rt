@@ -429,14 +429,17 @@ fn are_not_replaced(rt: &impl Abort, alloc: Global) {
     }
 }
 
+/// What replacing a file of the system comes to.
+fn replace_at(rt: &HostRuntime, path: &str) -> Result<(), FileFault> {
+    SystemFiles::new(rt).replace(rt.alloc(), path, ".new", b"x")
+}
+
 #[test]
 fn names_what_replacing_fails_with(rt: HostRuntime) {
     are_not_replaced(&rt, rt.alloc());
-    let mut files = SystemFiles::new(&rt);
-    let fault = files.replace(rt.alloc(), "/proc/c", ".new", b"x");
-    alike(&rt, "/proc/c", fault, Err(FileFault::Failed));
-    let fault = files.replace(rt.alloc(), "/dev/null", ".new", b"x");
-    alike(&rt, "/dev/null", fault, Err(FileFault::Failed));
-    let fault = files.replace(rt.alloc(), "/dev", ".new", b"x");
-    alike(&rt, "/dev", fault, Err(FileFault::Folder));
+    for path in ["/proc/c", "/dev/null"] {
+        alike(&rt, path, replace_at(&rt, path), Err(FileFault::Failed));
+    }
+    let folder = replace_at(&rt, "/dev");
+    alike(&rt, "/dev", folder, Err(FileFault::Folder));
 }
