@@ -1,9 +1,9 @@
 //! Lookups over the index of a database, which have the outcome of those by its lists.
 
-use super::{database_of, index_of, outcome_of, unprepared_index_of};
+use super::{by_index, by_lists, database_of, index_of, unprepared_index_of};
 use crate::tests::checked::alike;
 use mime_base::{Database, Host};
-use mime_lookup::{IndexedDatabase, Order, look_up_indexed, look_up_plain};
+use mime_lookup::{IndexedDatabase, Order};
 use mime_samples::texts::{EMPTY, Texts};
 use std::alloc::Global;
 use std::process::Abort;
@@ -160,11 +160,9 @@ fn is_alike(
     way: (Host, Order),
 ) {
     let (name, content) = asked;
-    let (host, order) = way;
-    let (mut of_lists, mut of_index) = (content, content);
-    let by_lists = outcome_of(look_up_plain(alloc, database, name, &mut of_lists, host, order));
-    let by_index = outcome_of(look_up_indexed(alloc, index, name, &mut of_index, host, order));
-    alike(rt, "by the index", by_index, by_lists);
+    let wanted = by_lists(alloc, database, name, content, way);
+    let found = by_index(alloc, index, name, content, way);
+    alike(rt, "by the index", found, wanted);
 }
 
 /// So they have in each order, and on each host.
