@@ -40,14 +40,14 @@ fn outcome_of<'a>(found: Result<Answer<'a>, Stopped>) -> Outcome<'a> {
 }
 
 /// The database of a directory. It is boxed, so that to let it go is one call, whose proof is short.
-fn database_of(rt: &impl Abort, alloc: Global, texts: Texts<'_>) -> Box<Database> {
-    let database = merged(alloc, &[texts]).expect(rt, "a database");
+fn database_of(rt: &impl Abort, alloc: Global, dirs: &[Texts<'_>]) -> Box<Database> {
+    let database = merged(alloc, dirs).expect(rt, "a database");
     Box::new(alloc, database).expect(rt, "room")
 }
 
 /// The bytes of the cache of a directory.
-fn cache_of(rt: &impl Abort, alloc: Global, texts: Texts<'_>) -> Vec<u8> {
-    let database = database_of(rt, alloc, texts);
+fn cache_of(rt: &impl Abort, alloc: Global, dirs: &[Texts<'_>]) -> Vec<u8> {
+    let database = database_of(rt, alloc, dirs);
     write_cache(alloc, &database, 8192).expect(rt, "its cache")
 }
 

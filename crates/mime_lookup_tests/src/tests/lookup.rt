@@ -125,6 +125,30 @@ fn look_up_lists<'a, R: Content>(
     outcome_of(look_up_plain(alloc, database, file, content, host, order))
 }
 
+/// The same of a name and a content.
+fn by_lists<'a>(
+    alloc: Global,
+    database: &'a Database,
+    name: &[u8],
+    content: Option<&[u8]>,
+    (host, order): (Host, Order),
+) -> Outcome<'a> {
+    let mut content = content;
+    look_up_lists(alloc, database, name, &mut content, host, order)
+}
+
+/// The outcome of a lookup of a name and a content by an index, of which nothing is known.
+fn by_index<'a>(
+    alloc: Global,
+    index: &IndexedDatabase<'a>,
+    name: &[u8],
+    content: Option<&[u8]>,
+    (host, order): (Host, Order),
+) -> Outcome<'a> {
+    let mut content = content;
+    outcome_of(look_up_indexed(alloc, index, name, &mut content, host, order))
+}
+
 /// The outcome of a lookup over the bytes of a cache, of which nothing is known.
 fn look_up_cache<'a, R: Content>(
     alloc: Global,
@@ -200,9 +224,8 @@ fn is_answered_by_index(
     content: Option<&[u8]>,
 ) {
     let index = index_of(rt, alloc, database);
-    let (mut content, file) = (content, asked.file);
-    let found = look_up_indexed(alloc, &index, file, &mut content, asked.host, asked.order);
-    let found = outcome_of(found);
+    let way = (asked.host, asked.order);
+    let found = by_index(alloc, &index, asked.file, content, way);
     is_outcome(rt, asked.name, "by the index", found, asked.outcome);
 }
 

@@ -18,11 +18,11 @@ use std::alloc::Global;
 use std::process::Abort;
 
 /// The sample with an icon and a generic icon of one type.
-const WITH_ICONS: Texts<'static> = Texts {
+static WITH_ICONS: [Texts<'static>; 1] = [Texts {
     icons: b"t/g:pkg\n",
     generic_icons: b"t/g:package-x-generic\n",
     ..SAMPLE_TEXTS
-};
+}];
 
 /// The fault of four bytes that are all ones and are taken for an offset.
 const FAR: CacheFault = CacheFault::OutOfRange(4_294_967_295);
@@ -92,7 +92,7 @@ static WRITTEN: [IconRow; 3] = [
 
 #[test]
 fn icons_that_are_named(rt: HostRuntime) {
-    let database = database_of(&rt, rt.alloc(), &[WITH_ICONS]);
+    let database = database_of(&rt, rt.alloc(), &WITH_ICONS);
     let bytes = write_cache(rt.alloc(), &database, 1024).expect(&rt, "its cache");
     for row in &WRITTEN {
         let same = has_icons(&rt, rt.alloc(), &bytes, row);
@@ -108,8 +108,8 @@ fn has_icons_over(rt: &impl Abort, alloc: Global, database: &Database, row: &Ico
 }
 
 /// The database of a directory has the icons of these rows.
-fn have_icons_over(rt: &impl Abort, alloc: Global, texts: Texts<'_>, rows: &[IconRow]) {
-    let database = database_of(rt, alloc, &[texts]);
+fn have_icons_over(rt: &impl Abort, alloc: Global, dirs: &[Texts<'_>], rows: &[IconRow]) {
+    let database = database_of(rt, alloc, dirs);
     for row in rows {
         let same = has_icons_over(rt, alloc, &database, row);
         alike(rt, "icons", (row.kind, same), (row.kind, true));
@@ -118,8 +118,8 @@ fn have_icons_over(rt: &impl Abort, alloc: Global, texts: Texts<'_>, rows: &[Ico
 
 #[test]
 fn icons_by_a_database(rt: HostRuntime) {
-    have_icons_over(&rt, rt.alloc(), SAMPLE_TEXTS, &OF_THE_SAMPLE);
-    have_icons_over(&rt, rt.alloc(), WITH_ICONS, &WRITTEN);
+    have_icons_over(&rt, rt.alloc(), &[SAMPLE_TEXTS], &OF_THE_SAMPLE);
+    have_icons_over(&rt, rt.alloc(), &WITH_ICONS, &WRITTEN);
 }
 
 /// Why a cache gives no icons, if it doesn't, and how much was read.
@@ -217,12 +217,12 @@ fn subclasses_by_damaged_caches(rt: HostRuntime) {
 
 /// A chain of more steps than are made without marks, a type of two parents, two types that are each above the other, aliases, and
 /// names that are found by one mark: those of `m` and their aliases.
-const SUBCLASSES: Texts<'static> = Texts {
+static SUBCLASSES: [Texts<'static>; 1] = [Texts {
     aliases: b"x/1last m/1last\nx/2last m/2last\nx/first c/0\nx/third c/2\n",
     subclasses: b"c/0 c/1\nc/1 c/2\nc/2 c/3\nc/3 c/4\nc/4 c/5\nc/5 c/6\nc/6 c/7\nc/7 c/8\nc/8 c/9\nc/9 c/10\nc/10 c/11\nc/11 c/12\nc/12 c/13\nc/13 c/14\nc/14 c/15\nc/15 c/16\nc/16 c/17\nc/17 c/18\n\
 d/bottom d/left\nd/bottom d/right\nd/right d/top\nl/a l/b\nl/b l/a\nm/1last m/top\nm/2last m/side\nm/2last m/top\n",
     ..EMPTY
-};
+}];
 
 /// Whether a type is another or a subclass of it, by an index.
 fn leads_by_index(
@@ -315,13 +315,13 @@ fn lead_by_index(rt: &impl Abort, alloc: Global, database: &Database) {
 
 #[test]
 fn subclasses_by_an_index(rt: HostRuntime) {
-    let database = database_of(&rt, rt.alloc(), &[SUBCLASSES]);
+    let database = database_of(&rt, rt.alloc(), &SUBCLASSES);
     lead_by_index(&rt, rt.alloc(), &database);
 }
 
 #[test]
 fn subclasses_by_a_database(rt: HostRuntime) {
-    let database = database_of(&rt, rt.alloc(), &[SUBCLASSES]);
+    let database = database_of(&rt, rt.alloc(), &SUBCLASSES);
     for &(kind, base, is) in &SUBCLASS_ROWS {
         let found = leads_over(&rt, rt.alloc(), &database, kind, base);
         alike(&rt, "is a", (kind, base, found), (kind, base, is));

@@ -1,10 +1,10 @@
 //! What `build` stores, and what it says.
 
-use crate::tests::ran::{Said, alike, in_environment, says};
-use crate::{Drawer, Entry, FailingDrawer, Shelf};
+use crate::tests::ran::{alike, says};
 use mime_base::{Database, GlobRule, Pattern, TypeName};
+use mime_fakes::{Drawer, Entry, FailingDrawer, Said, Shelf, ended_by, in_environment};
 use mime_store::write_cache;
-use mime_tool::{FileFault, Files, Process, run};
+use mime_tool::{FileFault, Files, Process};
 use std::alloc::Global;
 use std::process::Abort;
 use std::test::Fail;
@@ -215,32 +215,30 @@ fn is_printed(
     alloc: Global,
     to_terminal: bool,
     (status, err): (u8, &str),
-) -> Result<Vec<u8>, Fail> {
+) -> Vec<u8> {
     let process = Process {
         to_terminal,
         ..in_environment(None)
     };
-    let (mut out, mut said) = (Vec::new(alloc), Vec::new(alloc));
     let words = ["build", "-d", "/d:/e", "-o", "-"];
     let mut files = Shelf { entries: ENTRIES };
-    let found = run(alloc, &words, &[], process, &mut files, &mut out, &mut said);
-    alike(rt, "status", found, status);
-    alike(rt, "said", str::from_utf8(said.as_slice())?, err);
-    Ok(out)
+    let found = ended_by(alloc, &words, &[], process, &mut files);
+    alike(rt, "status", found.status, status);
+    alike(rt, "said", found.err.as_slice(), err.as_bytes());
+    found.out
 }
 
 #[test]
 fn prints_the_cache(rt: HostRuntime) -> Result<(), Fail> {
-    let printed = is_printed(&rt, rt.alloc(), false, (0, IGNORED))?;
+    let printed = is_printed(&rt, rt.alloc(), false, (0, IGNORED));
     is_of_both(&rt, rt.alloc(), &printed)
 }
 
 #[test]
-fn prints_no_cache_to_a_terminal(rt: HostRuntime) -> Result<(), Fail> {
+fn prints_no_cache_to_a_terminal(rt: HostRuntime) {
     let refused = "mimelook: no cache is written to a terminal\n";
-    let printed = is_printed(&rt, rt.alloc(), true, (3, refused))?;
+    let printed = is_printed(&rt, rt.alloc(), true, (3, refused));
     alike(&rt, "printed", printed.as_slice(), b"");
-    Ok(())
 }
 
 /// That many calls are met, and then one fails so: the run ends as is wanted, and the file stays.

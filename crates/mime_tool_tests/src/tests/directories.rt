@@ -1,7 +1,7 @@
 //! What is said of the files of data directories.
 
-use crate::Entry;
-use crate::tests::ran::{Said, says_over};
+use crate::tests::ran::says_over;
+use mime_fakes::{Entry, Said};
 use std::alloc::Global;
 use std::process::Abort;
 use std::test::Fail;

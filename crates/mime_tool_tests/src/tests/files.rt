@@ -1,7 +1,7 @@
 //! Files of which each call fails in turn.
 
-use crate::tests::ran::{Said, says};
-use crate::{Entry, FailingShelf, Shelf};
+use crate::tests::ran::says;
+use mime_fakes::{Entry, FailingShelf, Said, Shelf};
 use mime_tool::FileFault;
 use std::alloc::Global;
 use std::process::Abort;

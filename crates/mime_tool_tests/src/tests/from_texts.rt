@@ -36,7 +36,8 @@ static OGG: [DirTexts<'static>; 1] = [DirTexts {
     ..EMPTY
 }];
 
-fn type_of(
+/// The answer to a name and a content, of which nothing is known.
+pub fn type_of(
     alloc: Global,
     dirs: &[DirTexts<'_>],
     file: &[u8],

@@ -1,7 +1,7 @@
 //! What is printed with `--inode`.
 
-use crate::tests::ran::{Said, says, says_over};
-use crate::{Entry, FailingFiles};
+use crate::tests::ran::{says, says_over};
+use mime_fakes::{Entry, FailingFiles, Said};
 use mime_tool::{FileFault, Inode};
 use std::test::Fail;
 

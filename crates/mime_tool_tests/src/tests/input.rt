@@ -1,8 +1,8 @@
 //! What is printed for standard input, under a name.
 
-use crate::tests::ran::{UNSET, alike};
-use crate::{Entry, Page, Shelf};
-use mime_tool::{Process, run};
+use crate::tests::ran::ends;
+use mime_fakes::{Entry, Page, Said, Shelf, UNSET, ended_by};
+use mime_tool::Process;
 use std::alloc::Global;
 use std::process::Abort;
 use std::test::Fail;
@@ -142,27 +142,19 @@ static ROWS: [Row; 15] = [
 ];
 
 fn is_answered(rt: &impl Abort, alloc: Global, row: &Row) -> Result<(), Fail> {
-    let mut out = Vec::new(alloc);
-    let mut err = Vec::new(alloc);
     let process = Process {
         environment: Some(UNSET),
         input: row.input,
         to_terminal: false,
     };
     let mut files = Shelf { entries: ENTRIES };
-    let status = run(
-        alloc,
-        row.words,
-        &[],
-        process,
-        &mut files,
-        &mut out,
-        &mut err,
-    );
-    alike(rt, row.name, status, row.status);
-    alike(rt, row.name, str::from_utf8(err.as_slice())?, row.err);
-    alike(rt, row.name, str::from_utf8(out.as_slice())?, row.out);
-    Ok(())
+    let found = ended_by(alloc, row.words, &[], process, &mut files);
+    let wanted = Said {
+        status: row.status,
+        out: row.out,
+        err: row.err,
+    };
+    ends(rt, row.name, &found, wanted)
 }
 
 #[test]

@@ -3,8 +3,8 @@
 //! No cache is made of the directories, so the answers are those of their text files as the rules of
 //! the formats have them.
 
-use crate::Entry;
-use crate::tests::ran::{Said, says_over};
+use crate::tests::ran::says_over;
+use mime_fakes::{Entry, Said};
 use std::alloc::Global;
 use std::process::Abort;
 use std::test::Fail;

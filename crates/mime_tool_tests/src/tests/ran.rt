@@ -1,7 +1,7 @@
-//! Runs of the program, and values that have to be alike.
+//! Runs of the program that have to end as wanted, and values that have to be alike.
 
-use crate::{Entry, FailingSink, Shelf};
-use mime_tool::{Environment, Files, Process, Sink, SinkFault, run};
+use mime_fakes::{Entry, Outcome, Said, Shelf, ended};
+use mime_tool::Files;
 use std::alloc::Global;
 use std::fmt::Debug;
 use std::process::Abort;
@@ -12,47 +12,12 @@ pub fn alike<T: PartialEq + Debug + Drop>(rt: &impl Abort, name: &str, found: T,
     assert_eq!(rt; found, wanted, "{name}");
 }
 
-/// Variables of the environment, of which none is set.
-pub const UNSET: Environment<'static> = Environment {
-    data_home: None,
-    home: None,
-    data_dirs: None,
-};
-
-/// A process with this environment, and nothing on standard input.
-pub fn in_environment<'a>(environment: Option<Environment<'a>>) -> Process<'a, &'a [u8]> {
-    Process {
-        environment,
-        input: b"",
-        to_terminal: false,
-    }
-}
-
-/// A run, of which nothing is known.
-pub fn ran<F: Files, O: Sink, E: Sink>(
-    alloc: Global,
-    words: &[&str],
-    files: &mut F,
-    out: &mut O,
-    err: &mut E,
-) -> u8 {
-    run(
-        alloc,
-        words,
-        &[],
-        in_environment(Some(UNSET)),
-        files,
-        out,
-        err,
-    )
-}
-
-/// A run's status, and what it prints and says.
-#[derive(Clone, Copy)]
-pub struct Said<'a> {
-    pub status: u8,
-    pub out: &'a str,
-    pub err: &'a str,
+/// A run ended with this status and both texts.
+pub fn ends(rt: &impl Abort, name: &str, found: &Outcome, wanted: Said<'_>) -> Result<(), Fail> {
+    alike(rt, name, found.status, wanted.status);
+    alike(rt, name, str::from_utf8(found.out.as_slice())?, wanted.out);
+    alike(rt, name, str::from_utf8(found.err.as_slice())?, wanted.err);
+    Ok(())
 }
 
 /// A run over these files has this status and both texts.
@@ -64,13 +29,7 @@ pub fn says<F: Files>(
     files: &mut F,
     wanted: Said<'_>,
 ) -> Result<(), Fail> {
-    let mut out = Vec::new(alloc);
-    let mut err = Vec::new(alloc);
-    let status = ran(alloc, words, files, &mut out, &mut err);
-    alike(rt, name, status, wanted.status);
-    alike(rt, name, str::from_utf8(out.as_slice())?, wanted.out);
-    alike(rt, name, str::from_utf8(err.as_slice())?, wanted.err);
-    Ok(())
+    ends(rt, name, &ended(alloc, words, files), wanted)
 }
 
 /// The same over a shelf.
@@ -83,44 +42,4 @@ pub fn says_over(
     wanted: Said<'_>,
 ) -> Result<(), Fail> {
     says(rt, alloc, name, words, &mut Shelf { entries }, wanted)
-}
-
-/// A run's status, what standard output took and how much of it was flushed, and what was said.
-#[derive(Clone, Copy)]
-pub struct Taken<'a> {
-    pub status: u8,
-    pub out: &'a str,
-    pub flushed: usize,
-    pub err: &'a str,
-}
-
-/// A run over a shelf, with these streams, ends so.
-pub fn is_taken_over(
-    rt: &impl Abort,
-    alloc: Global,
-    name: &str,
-    words: &[&str],
-    entries: &[(&str, Entry<'_>)],
-    streams: (FailingSink, FailingSink),
-    wanted: Taken<'_>,
-) {
-    let (mut out, mut err) = streams;
-    let status = ran(alloc, words, &mut Shelf { entries }, &mut out, &mut err);
-    alike(rt, name, status, wanted.status);
-    shows(rt, name, out.taken.as_slice(), wanted.out);
-    shows(rt, name, err.taken.as_slice(), wanted.err);
-    alike(rt, name, out.flushed, wanted.flushed);
-}
-
-/// A sink of which no call fails.
-pub fn sound(alloc: Global) -> FailingSink {
-    FailingSink::new(alloc, 0, 0, SinkFault::Failed)
-}
-
-/// Bytes that were printed are this text.
-fn shows(rt: &impl Abort, name: &str, bytes: &[u8], text: &str) {
-    match str::from_utf8(bytes) {
-        Ok(found) => alike(rt, name, found, text),
-        Err(_) => alike(rt, name, bytes, text.as_bytes()),
-    }
 }

@@ -1,8 +1,8 @@
 //! Commands over data directories, those that are named or the user's.
 
-use crate::tests::ran::{UNSET, alike, in_environment};
-use crate::{Entry, Shelf};
-use mime_tool::{Environment, run};
+use crate::tests::ran::ends;
+use mime_fakes::{Entry, Said, Shelf, UNSET, ended_by, in_environment};
+use mime_tool::Environment;
 use std::alloc::Global;
 use std::process::Abort;
 use std::test::Fail;
@@ -255,21 +255,14 @@ fn are_answered(rt: &impl Abort, alloc: Global, rows: &[Row]) -> Result<(), Fail
 
 fn is_answered(rt: &impl Abort, alloc: Global, row: &Row) -> Result<(), Fail> {
     let mut files = Shelf { entries: ENTRIES };
-    let mut out = Vec::new(alloc);
-    let mut err = Vec::new(alloc);
-    let status = run(
-        alloc,
-        row.words,
-        &[],
-        in_environment(row.environment),
-        &mut files,
-        &mut out,
-        &mut err,
-    );
-    alike(rt, row.name, str::from_utf8(err.as_slice())?, row.err);
-    alike(rt, row.name, str::from_utf8(out.as_slice())?, row.out);
-    alike(rt, row.name, status, row.status);
-    Ok(())
+    let process = in_environment(row.environment);
+    let found = ended_by(alloc, row.words, &[], process, &mut files);
+    let wanted = Said {
+        status: row.status,
+        out: row.out,
+        err: row.err,
+    };
+    ends(rt, row.name, &found, wanted)
 }
 
 #[test]

@@ -1,7 +1,7 @@
 //! Real files, and files, readers and writers that fail.
 
 use crate::tests::ran::alike;
-use crate::{Disk, Opened, Script, Step};
+use mime_fakes::{Disk, Opened, Script, Step};
 use mime_tool::{FileFault, Files, Sink, SinkFault, Stream, SystemFiles, read_whole};
 use std::alloc::Global;
 use std::io::ErrorKind;
@@ -397,13 +397,13 @@ fn are_flushed(rt: &impl Abort) {
     }
 }
 
-const FULL_ONCE: &[Step] = &[Step::Faults(1, ErrorKind::StorageFull)];
+static FULL_ONCE: [Step; 1] = [Step::Faults(1, ErrorKind::StorageFull)];
 
 #[test]
 fn passes_on_each_failure_of_a_stream(rt: HostRuntime) {
     are_put(&rt);
     are_flushed(&rt);
-    let mut full = Stream(Script::new(FULL_ONCE));
+    let mut full = Stream(Script::new(&FULL_ONCE));
     alike(&rt, "a full disk", full.flush(), Err(SinkFault::Failed));
     alike(&rt, "what is flushed again", full.flush(), Ok(()));
 }
@@ -429,14 +429,17 @@ fn are_not_replaced(rt: &impl Abort, alloc: Global) {
     }
 }
 
+/// What replacing a file of the system comes to.
+fn replace_at(rt: &HostRuntime, path: &str) -> Result<(), FileFault> {
+    SystemFiles::new(rt).replace(rt.alloc(), path, ".new", b"x")
+}
+
 #[test]
 fn names_what_replacing_fails_with(rt: HostRuntime) {
     are_not_replaced(&rt, rt.alloc());
-    let mut files = SystemFiles::new(&rt);
-    let fault = files.replace(rt.alloc(), "/proc/c", ".new", b"x");
-    alike(&rt, "/proc/c", fault, Err(FileFault::Failed));
-    let fault = files.replace(rt.alloc(), "/dev/null", ".new", b"x");
-    alike(&rt, "/dev/null", fault, Err(FileFault::Failed));
-    let fault = files.replace(rt.alloc(), "/dev", ".new", b"x");
-    alike(&rt, "/dev", fault, Err(FileFault::Folder));
+    for path in ["/proc/c", "/dev/null"] {
+        alike(&rt, path, replace_at(&rt, path), Err(FileFault::Failed));
+    }
+    let folder = replace_at(&rt, "/dev");
+    alike(&rt, "/dev", folder, Err(FileFault::Folder));
 }

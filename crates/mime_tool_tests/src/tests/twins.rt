@@ -1,7 +1,7 @@
 //! Caches that are built with the twins of case-sensitive rules, and without.
 
-use crate::tests::ran::{Said, says};
-use crate::{Drawer, Entry, Shelf};
+use crate::tests::ran::says;
+use mime_fakes::{Drawer, Entry, Said, Shelf};
 use std::alloc::Global;
 use std::process::Abort;
 use std::test::Fail;

@@ -1,11 +1,10 @@
 //! Rules that are never kept, which what works from text files leaves out.
 
-use crate::tests::ran::{Said, alike, says, says_over};
-use crate::{Drawer, Entry, Shelf};
-use mime_base::Host;
-use mime_lookup::Order;
+use crate::tests::from_texts::type_of;
+use crate::tests::ran::{alike, says, says_over};
+use mime_fakes::{Drawer, Entry, Said, Shelf};
 use mime_samples::texts::EMPTY;
-use mime_tool::{DirTexts, answer};
+use mime_tool::DirTexts;
 use std::alloc::Global;
 use std::process::Abort;
 use std::test::Fail;
@@ -183,9 +182,7 @@ static DIRS: [DirTexts<'static>; 1] = [DirTexts {
 static ANSWERED: [(&str, &str); 2] = [("main.C", "text/x-c++src"), ("main.c", "text/x-csrc")];
 
 fn is_answered(rt: &impl Abort, alloc: Global, name: &str, kind: &str) -> Result<(), Fail> {
-    let mut content = Some(&b"/* x"[..]);
-    let (host, order) = (Host::Little, Order::GlobsFirst);
-    let found = answer(alloc, &DIRS, name.as_bytes(), &mut content, host, order)?;
+    let found = type_of(alloc, &DIRS, name.as_bytes(), Some(b"/* x"))?;
     alike(rt, name, str::from_utf8(found.kind.as_slice())?, kind);
     alike(rt, name, found.read, 0);
     Ok(())

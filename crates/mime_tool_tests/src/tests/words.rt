@@ -1,8 +1,8 @@
 //! Words that are no text.
 
-use crate::tests::ran::{UNSET, alike, in_environment};
-use crate::{Entry, Shelf};
-use mime_tool::{RawWord, run};
+use crate::tests::ran::alike;
+use mime_fakes::{Entry, Shelf, UNSET, ended_by, in_environment};
+use mime_tool::RawWord;
 use std::alloc::Global;
 use std::process::Abort;
 
@@ -161,20 +161,11 @@ const FOURTH: &[u8] = b"mimelook: word 4 is not text (UTF-8)\n";
 
 fn is_answered(rt: &impl Abort, alloc: Global, row: &Row) {
     let mut files = Shelf { entries: ENTRIES };
-    let mut out = Vec::new(alloc);
-    let mut err = Vec::new(alloc);
-    let status = run(
-        alloc,
-        row.words,
-        row.raws,
-        in_environment(Some(UNSET)),
-        &mut files,
-        &mut out,
-        &mut err,
-    );
-    alike(rt, row.name, status, row.status);
-    alike(rt, row.name, err.as_slice(), row.err);
-    alike(rt, row.name, out.as_slice(), row.out);
+    let process = in_environment(Some(UNSET));
+    let found = ended_by(alloc, row.words, row.raws, process, &mut files);
+    alike(rt, row.name, found.status, row.status);
+    alike(rt, row.name, found.err.as_slice(), row.err);
+    alike(rt, row.name, found.out.as_slice(), row.out);
 }
 
 #[test]

@@ -14,12 +14,12 @@ use std::alloc::Global;
 use std::process::Abort;
 
 /// Types with both icons, with one of them and with none, and aliases of them, of which one has an icon itself.
-const ICONS: Texts<'static> = Texts {
+static ICONS: [Texts<'static>; 1] = [Texts {
     aliases: b"x/first t/both\nx/second t/none\nx/third t/icon\n",
     icons: b"t/both:both-icon\nt/icon:own-icon\nx/third:icon-of-an-alias\n",
     generic_icons: b"t/both:both-generic\nt/generic:own-generic\n",
     ..EMPTY
-};
+}];
 
 /// A type, and its icons.
 struct Row {
@@ -114,7 +114,7 @@ fn all_are_found(rt: &impl Abort, alloc: Global, database: &Database) {
 
 #[test]
 fn icons_by_a_database(rt: HostRuntime) {
-    let database = database_of(&rt, rt.alloc(), ICONS);
+    let database = database_of(&rt, rt.alloc(), &ICONS);
     all_are_found(&rt, rt.alloc(), &database);
 }
 
@@ -157,7 +157,7 @@ fn all_are_found_again(rt: &impl Abort, alloc: Global, cache: &[u8]) {
 
 #[test]
 fn icons_read_back(rt: HostRuntime) {
-    let cache = cache_of(&rt, rt.alloc(), ICONS);
+    let cache = cache_of(&rt, rt.alloc(), &ICONS);
     all_are_found_again(&rt, rt.alloc(), &cache);
 }
 

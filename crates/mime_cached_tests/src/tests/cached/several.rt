@@ -16,7 +16,7 @@ use std::process::Abort;
 
 /// Of `.ogg` four types, one of them by an alias; of `.two` a type of two parents and one of none; of `.tie` types of two weights; of `q`
 /// five types, more than the halving of so short a name pays for, and of `w` four.
-const SEVERAL: Texts<'static> = Texts {
+static SEVERAL: [Texts<'static>; 1] = [Texts {
     globs2: b"60:t/high:*.tie\n50:a/ogg:*.ogg\n50:v/ogg:*.ogg\n50:x/theora:*.ogg\n50:t/other:*.ogg\n50:d/one:*.two\n50:d/both:*.two\n\
 50:t/low:*.tie\n50:q/1:q\n50:q/2:q\n50:q/3:q\n50:q/4:q\n50:q/5:q\n50:w/1:w\n50:w/2:w\n50:w/3:w\n50:w/4:w\n",
     magic: b"MIME-Magic\0\n[50:p/ogg]\n>0=\0\x01O\n[50:x/theora]\n>0=\0\x01T\n[50:v/ogg]\n>0=\0\x01V\n[50:r/right]\n>0=\0\x01R\n\
@@ -24,7 +24,7 @@ const SEVERAL: Texts<'static> = Texts {
     aliases: b"x/theora v/theora\nx/container p/ogg\n",
     subclasses: b"a/ogg x/container\nv/ogg p/ogg\nv/theora v/ogg\nd/both l/left\nd/both r/right\nl/a l/b\nl/b l/a\n",
     ..EMPTY
-};
+}];
 
 /// A name, a content, and its type where the preferred rules are asked and where all that match are.
 type Row = (
@@ -180,8 +180,8 @@ fn rows_alike(
 #[test]
 fn several_types(rt: HostRuntime) {
     let alloc = rt.alloc();
-    let database = database_of(&rt, alloc, SEVERAL);
-    let cache = cache_of(&rt, alloc, SEVERAL);
+    let database = database_of(&rt, alloc, &SEVERAL);
+    let cache = cache_of(&rt, alloc, &SEVERAL);
     for &choice in &EACH {
         rows_alike(&rt, alloc, &database, &cache, choice);
     }
@@ -202,7 +202,7 @@ fn is_loud(rt: &impl Abort, alloc: Global, cache: &[u8], choice: (bool, bool, bo
 
 #[test]
 fn loud_contents(rt: HostRuntime) {
-    let cache = cache_of(&rt, rt.alloc(), SEVERAL);
+    let cache = cache_of(&rt, rt.alloc(), &SEVERAL);
     for &choice in &EACH {
         is_loud(&rt, rt.alloc(), &cache, choice);
     }
@@ -232,7 +232,7 @@ fn are_named(rt: &impl Abort, alloc: Global, cache: &[u8]) {
 
 #[test]
 fn names_alone(rt: HostRuntime) {
-    let cache = cache_of(&rt, rt.alloc(), SEVERAL);
+    let cache = cache_of(&rt, rt.alloc(), &SEVERAL);
     are_named(&rt, rt.alloc(), &cache);
 }
 
@@ -255,6 +255,6 @@ fn are_chosen(rt: &impl Abort, alloc: Global, cache: &[u8]) {
 
 #[test]
 fn contents_that_choose(rt: HostRuntime) {
-    let cache = cache_of(&rt, rt.alloc(), SEVERAL);
+    let cache = cache_of(&rt, rt.alloc(), &SEVERAL);
     are_chosen(&rt, rt.alloc(), &cache);
 }

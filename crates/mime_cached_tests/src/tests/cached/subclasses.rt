@@ -11,12 +11,12 @@ use std::alloc::Global;
 use std::process::Abort;
 
 /// A chain of more steps than are made at once, a type of two parents, two types that are each above the other, and aliases.
-const SUBCLASSES: Texts<'static> = Texts {
+static SUBCLASSES: [Texts<'static>; 1] = [Texts {
     aliases: b"x/first c/0\nx/third c/2\nx/top d/top\n",
     subclasses: b"c/0 c/1\nc/1 c/2\nc/2 c/3\nc/3 c/4\nc/4 c/5\nc/5 c/6\nc/6 c/7\nc/7 c/8\nc/8 c/9\nc/9 c/10\nc/10 c/11\nc/11 c/12\nc/12 c/13\nc/13 c/14\nc/14 c/15\nc/15 c/16\nc/16 c/17\nc/17 c/18\n\
 d/bottom d/left\nd/bottom d/right\nd/below d/bottom\nd/right x/top\nl/a l/b\nl/b l/a\n",
     ..EMPTY
-};
+}];
 
 /// A type and another, whether it is that or a subclass of it, and whether the header alone is visited for that.
 struct Row {
@@ -181,7 +181,7 @@ fn are_found(rt: &impl Abort, alloc: Global, cache: &[u8]) {
 
 #[test]
 fn pairs_read_back(rt: HostRuntime) {
-    let cache = cache_of(&rt, rt.alloc(), SUBCLASSES);
+    let cache = cache_of(&rt, rt.alloc(), &SUBCLASSES);
     are_found(&rt, rt.alloc(), &cache);
 }
 

@@ -194,11 +194,11 @@ fn rows(rt: HostRuntime) {
 }
 
 /// Rules with a twin without the flag for older readers: that of `*.C` is never kept.
-const SOURCES: Texts<'static> = Texts {
+static SOURCES: [Texts<'static>; 1] = [Texts {
     globs2: b"50:text/x-c++src:*.C:cs\n50:text/x-c++src:*.C\n50:text/x-csrc:*.c:cs\n50:text/x-csrc:*.c\n",
     magic: b"MIME-Magic\0\n[50:text/x-csrc]\n>0=\0\x02/*\n",
     ..EMPTY
-};
+}];
 
 /// What is never kept is no candidate: a source file is of its own type, whatever it begins with.
 #[test]
@@ -215,6 +215,6 @@ fn hidden_rules(rt: HostRuntime) {
             order: Order::AllGlobs,
             outcome: Ok((kind, 0)),
         };
-        is_answered_from_texts(&rt, rt.alloc(), &[SOURCES], &asked, Some(&b"/* x"[..]));
+        is_answered_from_texts(&rt, rt.alloc(), &SOURCES, &asked, Some(&b"/* x"[..]));
     }
 }

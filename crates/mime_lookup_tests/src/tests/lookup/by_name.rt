@@ -125,19 +125,19 @@ fn rows(rt: HostRuntime) {
     }
 }
 
-/// A name one byte past the limit, and one at the limit.
-const LONG: (&[u8], &[u8]) = (&[b'a'; 4097], &[b'a'; 4096]);
+/// A name one byte past the limit.
+static LONG: [u8; 4097] = [b'a'; 4097];
 
 /// The names are refused and answered.
 fn is_limit(rt: &impl Abort, alloc: Global, database: &Database) {
-    let refused = look_up_name(alloc, database, LONG.0).err();
+    let refused = look_up_name(alloc, database, &LONG).err();
     let too_long = Stopped {
         cause: Cause::NameTooLong,
         read: 0,
         meter: Meter::new(),
     };
     alike(rt, "4,097 bytes", refused, Some(too_long));
-    let answer = outcome_of(look_up_name(alloc, database, LONG.1));
+    let answer = outcome_of(look_up_name(alloc, database, &LONG[..4096]));
     let octets = Ok((b"application/octet-stream".as_slice(), 0));
     alike(rt, "4,096 bytes", answer, octets);
 }

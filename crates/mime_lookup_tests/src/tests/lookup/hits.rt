@@ -10,11 +10,11 @@ use std::alloc::Global;
 use std::process::Abort;
 
 /// Rules of several weights, of which one is case-sensitive, and types that are aliases.
-const TEXTS: Texts<'static> = Texts {
+static TEXTS: [Texts<'static>; 1] = [Texts {
     globs2: b"70:t/star:m*\n255:t/light:*z\n60:t/name:m.gz\n0:t/one:*.gz\n0:t/two:*.GZ:cs\n40:t/three:*.b\n40:t/four:*.b\n",
     aliases: b"t/one t/resolved\nt/star t/resolved\nt/four t/three\n",
     ..EMPTY
-};
+}];
 
 /// A name, the type, the weight and the case of each rule that matches it, and how many of these are kept.
 type Row = (&'static [u8], &'static [(&'static [u8], u8, bool)], usize);
@@ -70,7 +70,7 @@ fn again<'a>(
 
 /// The cache of the texts.
 fn cache_of_texts(rt: &impl Abort, alloc: Global) -> Vec<u8> {
-    cache_of(rt, alloc, &database_of(rt, alloc, &[TEXTS]))
+    cache_of(rt, alloc, &database_of(rt, alloc, &TEXTS))
 }
 
 /// A cache that is opened, with what names need read back.
@@ -93,7 +93,7 @@ fn are_indexed(rt: &impl Abort, alloc: Global, database: &Database) {
 
 #[test]
 fn by_an_index(rt: HostRuntime) {
-    are_indexed(&rt, rt.alloc(), &database_of(&rt, rt.alloc(), &[TEXTS]));
+    are_indexed(&rt, rt.alloc(), &database_of(&rt, rt.alloc(), &TEXTS));
 }
 
 /// Each row is found by a walk.
@@ -148,7 +148,7 @@ fn is_limit(rt: &impl Abort, alloc: Global, database: &Database) {
 
 #[test]
 fn long_names(rt: HostRuntime) {
-    is_limit(&rt, rt.alloc(), &database_of(&rt, rt.alloc(), &[TEXTS]));
+    is_limit(&rt, rt.alloc(), &database_of(&rt, rt.alloc(), &TEXTS));
 }
 
 /// Where more rules match than records are left, the budget is spent, whatever was read back.

@@ -1,9 +1,9 @@
 //! Lookups over the index of a database, which have the outcome of those by its lists.
 
-use super::{database_of, index_of, outcome_of, unprepared_index_of};
+use super::{by_index, by_lists, database_of, index_of, unprepared_index_of};
 use crate::tests::checked::alike;
 use mime_base::{Database, Host};
-use mime_lookup::{IndexedDatabase, Order, look_up_indexed, look_up_plain};
+use mime_lookup::{IndexedDatabase, Order};
 use mime_samples::texts::{EMPTY, Texts};
 use std::alloc::Global;
 use std::process::Abort;
@@ -49,6 +49,10 @@ const GENERAL: Texts<'static> = Texts {
     globs2: MOSTLY_GENERAL,
     ..TEXTS
 };
+
+static DIRECTORY: [Texts<'static>; 1] = [TEXTS];
+
+static EACH: [Texts<'static>; 4] = [TEXTS, ANY, GENERAL, EMPTY];
 
 /// Names of no byte up to more than an ending has, in both cases, and endings alone.
 static NAMES: [&[u8]; 60] = [
@@ -156,11 +160,9 @@ fn is_alike(
     way: (Host, Order),
 ) {
     let (name, content) = asked;
-    let (host, order) = way;
-    let (mut of_lists, mut of_index) = (content, content);
-    let by_lists = outcome_of(look_up_plain(alloc, database, name, &mut of_lists, host, order));
-    let by_index = outcome_of(look_up_indexed(alloc, index, name, &mut of_index, host, order));
-    alike(rt, "by the index", by_index, by_lists);
+    let wanted = by_lists(alloc, database, name, content, way);
+    let found = by_index(alloc, index, name, content, way);
+    alike(rt, "by the index", found, wanted);
 }
 
 /// So they have in each order, and on each host.
@@ -217,7 +219,7 @@ fn all_are_alike(rt: &impl Abort, alloc: Global, database: &Database) {
 
 #[test]
 fn names_and_contents(rt: HostRuntime) {
-    for texts in [TEXTS, ANY, GENERAL, EMPTY] {
+    for &texts in &EACH {
         all_are_alike(&rt, rt.alloc(), &database_of(&rt, rt.alloc(), &[texts]));
     }
 }
@@ -231,7 +233,7 @@ fn unprepared_are_alike(rt: &impl Abort, alloc: Global, database: &Database) {
 
 #[test]
 fn magic_unprepared(rt: HostRuntime) {
-    unprepared_are_alike(&rt, rt.alloc(), &database_of(&rt, rt.alloc(), &[TEXTS]));
+    unprepared_are_alike(&rt, rt.alloc(), &database_of(&rt, rt.alloc(), &DIRECTORY));
 }
 
 /// So have the longest name and one of a byte more.
@@ -243,7 +245,7 @@ fn long_are_alike(rt: &impl Abort, alloc: Global, database: &Database) {
 
 #[test]
 fn long_name(rt: HostRuntime) {
-    long_are_alike(&rt, rt.alloc(), &database_of(&rt, rt.alloc(), &[TEXTS]));
+    long_are_alike(&rt, rt.alloc(), &database_of(&rt, rt.alloc(), &DIRECTORY));
 }
 
 /// A byte at each place near the end of the noted ones, in contents that end before it, at it and after it.
@@ -275,5 +277,5 @@ fn all_places_are_alike(rt: &impl Abort, alloc: Global, database: &Database) {
 
 #[test]
 fn places(rt: HostRuntime) {
-    all_places_are_alike(&rt, rt.alloc(), &database_of(&rt, rt.alloc(), &[TEXTS]));
+    all_places_are_alike(&rt, rt.alloc(), &database_of(&rt, rt.alloc(), &DIRECTORY));
 }

@@ -11,13 +11,13 @@ use std::process::Abort;
 
 /// A section without lines, and lines of one place and of a range, with a mask, in words, with children, of no offset and of no
 /// bytes; and a type twice.
-const TEXTS: Texts<'static> = Texts {
+static TEXTS: [Texts<'static>; 1] = [Texts {
     magic: b"MIME-Magic\0\n[90:t/none]\n[80:t/two]\n>0=\0\x03one\n>1=\0\x03two\n[70:t/range]\n>2=\0\x02xy+5\n\
 [60:t/mask]\n>0=\0\x02MK&\xdf\xdf\n>0=\0\x01N&\x0f\n[50:t/word]\n>0=\0\x02\x01\x02~2\n\
 [50:t/parent]\n>0=\0\x01p\n1>1=\0\x01q\n1>1=\0\x01r\n2>2=\0\x01s\n[50:t/no-offset]\n>0=\0\x01z+0\n\
 [40:t/two]\n>0=\0\x01z\n[30:t/end]\n>9=\0\0\n",
     ..EMPTY
-};
+}];
 
 /// A content, the type and the priority of its first section, if there is one, and its type.
 struct Row {
@@ -160,7 +160,7 @@ fn are_found(rt: &impl Abort, alloc: Global, database: &Database, cache: &[u8]) 
 
 #[test]
 fn sections_of_a_cache(rt: HostRuntime) {
-    let database = database_of(&rt, rt.alloc(), &[TEXTS]);
+    let database = database_of(&rt, rt.alloc(), &TEXTS);
     let cache = cache_of(&rt, rt.alloc(), &database);
     are_found(&rt, rt.alloc(), &database, &cache);
 }

@@ -1,9 +1,9 @@
 //! Values that stand around the last places that an index notes of a content, by the index and by the lists.
 
-use super::{index_of, of_magic, outcome_of};
+use super::{Outcome, by_index, by_lists, index_of, of_magic};
 use crate::tests::checked::alike;
 use mime_base::{Database, Host};
-use mime_lookup::{Answer, IndexedDatabase, Order, Stopped, look_up_indexed, look_up_plain};
+use mime_lookup::{IndexedDatabase, Order};
 use std::alloc::Global;
 use std::process::Abort;
 
@@ -85,8 +85,8 @@ static PLACES: [usize; 28] = [
 ];
 
 /// The type that was found, or nothing.
-fn kind_in(found: Result<Answer<'_>, Stopped>) -> &[u8] {
-    match outcome_of(found) {
+fn kind_in(found: Outcome<'_>) -> &[u8] {
+    match found {
         Ok((kind, _)) => kind,
         Err(_) => b"",
     }
@@ -121,11 +121,10 @@ fn has_kind(
     content: &[u8],
     kind: &[u8],
 ) {
-    let (host, order) = (Host::Little, Order::ContentOnly);
-    let (mut of_lists, mut of_index) = (Some(content), Some(content));
-    let plain = look_up_plain(alloc, database, b"q", &mut of_lists, host, order);
+    let way = (Host::Little, Order::ContentOnly);
+    let plain = by_lists(alloc, database, b"q", Some(content), way);
     alike(rt, "by the lists", kind_in(plain), kind);
-    let indexed = look_up_indexed(alloc, index, b"q", &mut of_index, host, order);
+    let indexed = by_index(alloc, index, b"q", Some(content), way);
     alike(rt, "by the index", kind_in(indexed), kind);
 }
 

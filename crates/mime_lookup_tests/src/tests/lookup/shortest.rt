@@ -1,10 +1,10 @@
 //! Contents that are shorter than what any line of magic needs, as long, and longer, by the index and by the lists.
 
 use super::magic_index::magic_of;
-use super::{cache_of, index_of, of_magic, outcome_of};
+use super::{by_index, by_lists, cache_of, index_of, of_magic};
 use crate::tests::checked::alike;
 use mime_base::{Database, Host, Meter};
-use mime_lookup::{IndexedDatabase, MagicIndex, Order, look_up_indexed, look_up_plain};
+use mime_lookup::{IndexedDatabase, MagicIndex, Order};
 use std::alloc::Global;
 use std::process::Abort;
 
@@ -103,19 +103,11 @@ fn front_has(
 ) {
     let (front, host) = (CONTENT.get(..length).unwrap_or(CONTENT), Host::Little);
     let wanted = Ok((kind_of(row.least, length), length as u64));
-    let mut content = Some(front);
-    let plain = look_up_plain(
-        alloc,
-        database,
-        b"q",
-        &mut content,
-        host,
-        Order::ContentOnly,
-    );
-    alike(rt, row.name, outcome_of(plain), wanted);
-    let mut content = Some(front);
-    let indexed = look_up_indexed(alloc, index, b"q", &mut content, host, Order::ContentOnly);
-    alike(rt, row.name, outcome_of(indexed), wanted);
+    let way = (host, Order::ContentOnly);
+    let plain = by_lists(alloc, database, b"q", Some(front), way);
+    alike(rt, row.name, plain, wanted);
+    let indexed = by_index(alloc, index, b"q", Some(front), way);
+    alike(rt, row.name, indexed, wanted);
     let section = of_cache.first_section(front, host, &mut Meter::new());
     alike(rt, row.name, section.is_some(), length >= row.least);
 }

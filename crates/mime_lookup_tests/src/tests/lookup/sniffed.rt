@@ -1,11 +1,9 @@
 //! Contents over the index of a database, which are sniffed as by its lists.
 
-use super::{database_of, index_of, of_magic, outcome_of};
+use super::{by_index, by_lists, database_of, index_of, of_magic, outcome_of};
 use crate::tests::checked::alike;
 use mime_base::{Database, Host};
-use mime_lookup::{
-    DatabaseMagic, IndexedDatabase, Order, look_up_by_magic, look_up_indexed, look_up_plain,
-};
+use mime_lookup::{DatabaseMagic, IndexedDatabase, Order, look_up_by_magic};
 use mime_samples::texts::{EMPTY, Texts};
 use std::alloc::Global;
 use std::process::Abort;
@@ -19,11 +17,10 @@ fn is_alike(
     content: &[u8],
 ) {
     for host in [Host::Little, Host::Big] {
-        let order = Order::ContentOnly;
-        let (mut of_lists, mut of_index) = (Some(content), Some(content));
-        let by_lists = outcome_of(look_up_plain(alloc, database, b"", &mut of_lists, host, order));
-        let by_index = outcome_of(look_up_indexed(alloc, index, b"", &mut of_index, host, order));
-        alike(rt, "by the index", by_index, by_lists);
+        let way = (host, Order::ContentOnly);
+        let wanted = by_lists(alloc, database, b"", Some(content), way);
+        let found = by_index(alloc, index, b"", Some(content), way);
+        alike(rt, "by the index", found, wanted);
     }
 }
 
@@ -102,11 +99,10 @@ fn is_alike_by_magic(
 ) {
     let (host, name) = (Host::Little, b"x.a");
     for order in [Order::ContentOnly, Order::GlobsFirst, Order::AllGlobs] {
-        let (mut of_lists, mut of_magic) = (Some(content), Some(content));
-        let by_lists = look_up_plain(alloc, database, name, &mut of_lists, host, order);
-        let by_magic = look_up_by_magic(alloc, magic, name, &mut of_magic, host, order);
-        let (by_lists, by_magic) = (outcome_of(by_lists), outcome_of(by_magic));
-        alike(rt, "by the magic", by_magic, by_lists);
+        let wanted = by_lists(alloc, database, name, Some(content), (host, order));
+        let mut of_magic = Some(content);
+        let found = look_up_by_magic(alloc, magic, name, &mut of_magic, host, order);
+        alike(rt, "by the magic", outcome_of(found), wanted);
     }
 }
 
@@ -119,17 +115,17 @@ fn are_alike_by_magic(rt: &impl Abort, alloc: Global, database: &Database) {
 }
 
 /// The same lines, and names of two types.
-const NAMED: Texts<'static> = Texts {
+static NAMED: [Texts<'static>; 1] = [Texts {
     globs2: b"50:t/abce:*.a\n50:t/late:*.a\n",
     aliases: b"t/abc t/other\n",
     subclasses: b"t/second t/late\n",
     magic: HEADS,
     ..EMPTY
-};
+}];
 
 #[test]
 fn magic_alone(rt: HostRuntime) {
-    are_alike_by_magic(&rt, rt.alloc(), &database_of(&rt, rt.alloc(), &[NAMED]));
+    are_alike_by_magic(&rt, rt.alloc(), &database_of(&rt, rt.alloc(), &NAMED));
 }
 
 /// Ranges of which the last place of a later pair is the last that is noted, one more, and far beyond; each value has capitals

@@ -9,16 +9,16 @@ use std::alloc::Global;
 use std::process::Abort;
 
 /// An ending, whose text is two nodes; a text that ends at its second node, and a general pattern.
-const FEW: Texts<'static> = Texts {
+static FEW: [Texts<'static>; 1] = [Texts {
     globs2: b"50:t/c:*.c\n50:t/make:makefile\n50:t/mine:m[ak]*\n",
     ..EMPTY
-};
+}];
 
 /// Of most rules the general pattern is asked, and no node is counted.
-const GENERAL: Texts<'static> = Texts {
+static GENERAL: [Texts<'static>; 1] = [Texts {
     globs2: b"50:t/c:*.c\n50:t/make:m?\n50:t/mine:m[ak]*\n",
     ..EMPTY
-};
+}];
 
 /// A step and its node for each byte, the node of each ending, and a step for each rule; where no text matches, those of the
 /// first byte and of any.
@@ -61,7 +61,7 @@ fn nodes_of(
 
 #[test]
 fn steps_of_a_name(rt: HostRuntime) {
-    let database = database_of(&rt, rt.alloc(), &[FEW]);
+    let database = database_of(&rt, rt.alloc(), &FEW);
     for &(what, name, order, nodes) in &COUNTED {
         let found = nodes_of(&rt, rt.alloc(), &database, name, order);
         alike(&rt, what, found, Ok(nodes));
@@ -70,7 +70,7 @@ fn steps_of_a_name(rt: HostRuntime) {
 
 #[test]
 fn general_patterns_are_no_steps(rt: HostRuntime) {
-    let database = database_of(&rt, rt.alloc(), &[GENERAL]);
+    let database = database_of(&rt, rt.alloc(), &GENERAL);
     let nodes = nodes_of(&rt, rt.alloc(), &database, b"makefile", Order::GlobsFirst);
     alike(&rt, "by the lists", nodes, Ok(0));
 }

@@ -1,9 +1,9 @@
 //! What is printed for the FILEs of a list.
 
-use crate::tests::ran::{Said, Taken, UNSET, alike, is_taken_over, says_over, sound};
-use crate::{Entry, FailingSink, Shelf};
+use crate::tests::ran::{Taken, ends, is_taken_over, says_over, sound};
+use mime_fakes::{Entry, FailingSink, Said, Shelf, UNSET, ended_by};
 use mime_lookup::{Script, Step};
-use mime_tool::{Inode, Process, SinkFault, run};
+use mime_tool::{Inode, Process, SinkFault};
 use std::alloc::Global;
 use std::process::Abort;
 use std::test::Fail;
@@ -231,27 +231,19 @@ static ROWS: [Row; 22] = [
 ];
 
 fn is_answered(rt: &impl Abort, alloc: Global, row: &Row) -> Result<(), Fail> {
-    let mut out = Vec::new(alloc);
-    let mut err = Vec::new(alloc);
     let process = Process {
         environment: Some(UNSET),
         input: Script::new(row.input),
         to_terminal: false,
     };
     let mut files = Shelf { entries: ENTRIES };
-    let status = run(
-        alloc,
-        row.words,
-        &[],
-        process,
-        &mut files,
-        &mut out,
-        &mut err,
-    );
-    alike(rt, row.name, status, row.status);
-    alike(rt, row.name, str::from_utf8(err.as_slice())?, row.err);
-    alike(rt, row.name, str::from_utf8(out.as_slice())?, row.out);
-    Ok(())
+    let found = ended_by(alloc, row.words, &[], process, &mut files);
+    let wanted = Said {
+        status: row.status,
+        out: row.out,
+        err: row.err,
+    };
+    ends(rt, row.name, &found, wanted)
 }
 
 #[test]

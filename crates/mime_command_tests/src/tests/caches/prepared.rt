@@ -1,22 +1,19 @@
 //! Runs over so many FILEs that parts of the cache are read back meanwhile: each line is the one of a run over its FILE alone.
 
-use crate::tests::ran::{alike, ran};
-use crate::{Entry, Shelf};
+use crate::tests::ran::alike;
+use mime_fakes::{Entry, Shelf, ended};
 use mime_samples::caches::SAMPLE;
+use mime_samples::texts::{EMPTY, Texts, merged};
 use mime_store::write_cache;
-use mime_text::{DirTexts, merge, read_dirs};
 use std::alloc::Global;
 use std::process::Abort;
 use std::test::Fail;
 
 /// Two rules that stand in a glob list, and a section beside them.
-static GENERAL: [DirTexts<'static>; 1] = [DirTexts {
+static GENERAL: [Texts<'static>; 1] = [Texts {
     globs2: b"50:t/m:m*\n60:t/x:?x*:cs\n50:t/g:*.gz\n50:t/r:readme\n",
     magic: b"MIME-Magic\0\n[40:t/g]\n>0=\0\x02\x1f\x8b\n",
-    aliases: b"",
-    subclasses: b"",
-    icons: b"",
-    generic_icons: b"",
+    ..EMPTY
 }];
 
 /// The default order, in which a content is read where the name doesn't decide, and what else can be asked for.
@@ -72,11 +69,10 @@ fn printed(
     entries: &[(&str, Entry<'_>)],
     words: &[&str],
 ) -> Vec<u8> {
-    let (mut out, mut err) = (Vec::new(alloc), Vec::new(alloc));
-    let status = ran(alloc, words, &mut Shelf { entries }, &mut out, &mut err);
-    alike(rt, "status", status, 0);
-    alike(rt, "said", err.as_slice(), b"");
-    out
+    let found = ended(alloc, words, &mut Shelf { entries });
+    alike(rt, "status", found.status, 0);
+    alike(rt, "said", found.err.as_slice(), b"");
+    found.out
 }
 
 /// The words of a run with what is asked, over this.
@@ -165,9 +161,8 @@ fn prints_as_alone_however_asked(
 
 /// The cache of rules of which two stand in its glob list.
 fn of_general_rules(alloc: Global) -> Result<Vec<u8>, Fail> {
-    let database = merge(alloc, read_dirs(alloc, &GENERAL)?)?;
-    let cache = write_cache(alloc, &database, usize::MAX)?;
-    Ok(cache)
+    let database = merged(alloc, &GENERAL)?;
+    Ok(write_cache(alloc, &database, usize::MAX)?)
 }
 
 #[test]

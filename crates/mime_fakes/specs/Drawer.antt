@@ -4,9 +4,9 @@ use Rattle.std.specs.Str.{bytes_eq}
 use Rattle.std.specs.declared.alloc.Global.{Global}
 use Rattle.mime_lookup.specs.Content.{Health, sound}
 use Rattle.mime_tool.specs.Files.{Stored, Writing, bytes, fails, nothing, succeeds}
-use Rattle.mime_tool_tests.specs.Shelf.{health_of, left_of}
-use Rattle.mime_tool_tests.specs.declared.drawer.Sheet.{Sheet}
-use Rattle.mime_tool_tests.specs.declared.drawer.Sheet.TheVariants.{Laid, Shelved}
+use Rattle.mime_fakes.specs.Shelf.{health_of, left_of}
+use Rattle.mime_fakes.specs.declared.drawer.Sheet.{Sheet}
+use Rattle.mime_fakes.specs.declared.drawer.Sheet.TheVariants.{Laid, Shelved}
 
 -- what is stored at each path where this came to a path by way of it with an ending, over what a shelf has
 abbrev pub stored_in : List ℕ → List ℕ → (List ℕ → Stored) → Option (Vec ℕ Global) → List ℕ → Stored

@@ -1,8 +1,8 @@
 //! Files that have no line, and lookups that stop at a cache.
 
 use super::{Cache, ROW, Row, WHOLE, are_answered};
-use crate::Entry;
-use crate::tests::ran::{Said, says_over};
+use crate::tests::ran::says_over;
+use mime_fakes::{Entry, Said};
 use mime_samples::caches::SAMPLE;
 use std::test::Fail;
 

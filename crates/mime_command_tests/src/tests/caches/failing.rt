@@ -1,8 +1,8 @@
 //! Files and outputs that fail under the commands over a cache.
 
 use super::entries_beside;
-use crate::tests::ran::{Said, Taken, is_taken_over, says, sound};
-use crate::{FailingShelf, FailingSink, Shelf};
+use crate::tests::ran::{Taken, is_taken_over, says, sound};
+use mime_fakes::{FailingShelf, FailingSink, Said, Shelf};
 use mime_samples::caches::SAMPLE;
 use mime_tool::{FileFault, SinkFault};
 use std::alloc::Global;

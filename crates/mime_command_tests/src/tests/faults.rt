@@ -1,8 +1,8 @@
 //! Files and sinks that fail.
 
-use crate::tests::ran::{Said, Taken, alike, is_taken_over, ran, says, sound};
-use crate::{Entry, FailingFiles, FailingSink, Slate};
+use crate::tests::ran::{Taken, alike, is_taken_over, says, sound};
 use arrayvec::ArrayVec;
+use mime_fakes::{Entry, FailingFiles, FailingSink, Said, Slate, ran};
 use mime_tool::{FileFault, Sink, SinkFault};
 use std::alloc::Global;
 use std::process::Abort;

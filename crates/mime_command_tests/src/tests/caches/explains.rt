@@ -1,8 +1,8 @@
 //! What `explain` prints of files, made by hand from the rules, the magic and the pairs below.
 
 use super::{ROW, Row, is_answered};
-use crate::Entry;
-use crate::tests::ran::{Said, says_over};
+use crate::tests::ran::says_over;
+use mime_fakes::{Entry, Said};
 use std::test::Fail;
 
 static ENTRIES: &[(&str, Entry<'static>)] = &[

@@ -4,10 +4,10 @@ use Rattle.std.specs.Borrow.{Bor}
 use Rattle.std.specs.Str.{bytes_eq}
 use Rattle.mime_lookup.specs.Content.{Health, broken, sound}
 use Rattle.mime_tool.specs.Files.{Stored, bytes, closed, dangling, folder, nothing, special, unreadable}
-use Rattle.mime_tool_tests.specs.declared.shelf.Entry.{Entry}
-use Rattle.mime_tool_tests.specs.declared.shelf.Entry.TheVariants.{Bytes, Closed, Dangling, Folder, Special, Unreadable}
-use Rattle.mime_tool_tests.specs.declared.shelf.Page.{Page}
-use Rattle.mime_tool_tests.specs.declared.shelf.Page.TheVariants as page
+use Rattle.mime_fakes.specs.declared.shelf.Entry.{Entry}
+use Rattle.mime_fakes.specs.declared.shelf.Entry.TheVariants.{Bytes, Closed, Dangling, Folder, Special, Unreadable}
+use Rattle.mime_fakes.specs.declared.shelf.Page.{Page}
+use Rattle.mime_fakes.specs.declared.shelf.Page.TheVariants as page
 
 -- what a file in memory holds
 abbrev pub stored : Option Entry → Stored

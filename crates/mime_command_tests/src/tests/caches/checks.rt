@@ -1,8 +1,8 @@
 //! What `check` prints of caches, and which part it says is not read back.
 
 use super::{Cache, ROW, Row, WHOLE, are_answered, is_answered_over};
-use crate::tests::ran::{Said, alike, ran, says, says_over};
-use crate::{Drawer, Entry, Shelf};
+use crate::tests::ran::{alike, says, says_over};
+use mime_fakes::{Drawer, Entry, Said, Shelf, ended};
 use mime_samples::caches::SAMPLE;
 use std::alloc::Global;
 use std::process::Abort;
@@ -301,14 +301,9 @@ fn built(rt: &impl Abort, alloc: Global, directory: &str) -> Result<Vec<u8>, Fai
         ending: ".new",
         laid: None,
     };
-    let (mut out, mut err) = (Vec::new(alloc), Vec::new(alloc));
     let words = ["build", "-d", directory, "-o", "cache"];
-    alike(
-        rt,
-        directory,
-        ran(alloc, &words, &mut files, &mut out, &mut err),
-        0,
-    );
+    let found = ended(alloc, &words, &mut files);
+    alike(rt, directory, found.status, 0);
     match files.laid {
         Some(bytes) => Ok(bytes),
         None => Err(Fail::from("nothing was built")),

@@ -3,7 +3,8 @@
 mod help;
 mod mistakes;
 
-use crate::tests::ran::{Said, alike, says_over};
+use crate::tests::ran::{alike, says_over};
+use mime_fakes::Said;
 use mime_tool::{FileFault, SinkFault};
 use std::alloc::Global;
 use std::fmt::Display;

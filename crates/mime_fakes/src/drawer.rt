@@ -1,8 +1,8 @@
 //! Files in memory of which one can be replaced, and which tell that.
 
 ghost use Rattle.std.specs.Prelude.{◌≡◌, ◌++◌, IfOk, string_bytes};
-ghost use Rattle.mime_tool_tests.specs.Drawer.{stored_in, writes_of};
-ghost use Rattle.mime_tool_tests.specs.Shelf.{stored_at};
+ghost use Rattle.mime_fakes.specs.Drawer.{stored_in, writes_of};
+ghost use Rattle.mime_fakes.specs.Shelf.{stored_at};
 
 use crate::{Page, Shelf};
 use mime_base::OutOfMemory;
@@ -33,7 +33,7 @@ pub enum Sheet<'a> {
 
 impl Read for Sheet<'_> {
     ghost use Rattle.std.specs.Prelude.{Some};
-    ghost use Rattle.mime_tool_tests.specs.Drawer.{left_in};
+    ghost use Rattle.mime_fakes.specs.Drawer.{left_in};
 
     ghost remaining = { λ sheet. Some (left_in sheet) };
 
@@ -46,7 +46,7 @@ impl Read for Sheet<'_> {
 }
 
 impl Content for Sheet<'_> {
-    ghost use Rattle.mime_tool_tests.specs.Drawer.{health_in};
+    ghost use Rattle.mime_fakes.specs.Drawer.{health_in};
 
     ghost health = { health_in };
 

@@ -1,10 +1,10 @@
 //! The cost that `type` reports.
 
-use crate::tests::ran::{alike, ran};
-use crate::{Entry, Shelf};
+use crate::tests::ran::alike;
 use mime_base::Database;
+use mime_fakes::{Entry, Shelf, ended, ran};
+use mime_samples::texts::of_rules;
 use mime_store::write_cache;
-use mime_text::read_globs2;
 use std::alloc::Global;
 use std::process::Abort;
 use std::test::Fail;
@@ -76,11 +76,10 @@ fn prints(rt: &impl Abort, alloc: Global, cache: &[u8], row: &Row) {
         ("/HELLO", Entry::Bytes(b"hello")),
     ];
     let mut files = Shelf { entries: &entries };
-    let (mut out, mut err) = (Vec::new(alloc), Vec::new(alloc));
-    let status = ran(alloc, row.words, &mut files, &mut out, &mut err);
-    alike(rt, "status", status, 0);
-    alike(rt, "said", err.as_slice(), b"");
-    alike(rt, "printed", out.as_slice(), row.printed.as_bytes());
+    let found = ended(alloc, row.words, &mut files);
+    alike(rt, "status", found.status, 0);
+    alike(rt, "said", found.err.as_slice(), b"");
+    alike(rt, "printed", found.out.as_slice(), row.printed.as_bytes());
 }
 
 #[test]
@@ -104,41 +103,51 @@ const FEW_RULES: &[u8] = b"50:t/m:m*\n60:t/x:?x*:cs\n";
 const MORE_RULES: &[u8] = b"50:t/m:m*\n60:t/x:?x*:cs\n50:t/r:readme\n50:t/r:makefile\n";
 
 /// The cache of these rules.
-fn of_rules(alloc: Global, globs2: &[u8]) -> Result<Vec<u8>, Fail> {
-    let file = read_globs2(alloc, globs2)?;
-    let database = Database::of_rules(alloc, file.rules);
+fn cache_of(alloc: Global, globs2: &[u8]) -> Result<Vec<u8>, Fail> {
+    let database = of_rules(alloc, globs2)?;
     Ok(write_cache(alloc, &database, usize::MAX)?)
+}
+
+/// What runs over a cache print of each name alone; they say nothing.
+fn apart(rt: &impl Abort, alloc: Global, cache: &[u8]) -> Vec<u8> {
+    let entries = [("/c", Entry::Bytes(cache))];
+    let mut files = Shelf { entries: &entries };
+    let (mut out, mut err) = (Vec::new(alloc), Vec::new(alloc));
+    for &name in &NAMES {
+        let alone = ["type", "-c", "/c", "--name-only", "--cost", name];
+        let status = ran(alloc, &alone, &mut files, &mut out, &mut err);
+        alike(rt, "status", status, 0);
+    }
+    alike(rt, "said", err.as_slice(), b"");
+    out
+}
+
+/// The words of a run over all names.
+fn of_all_names(alloc: Global) -> Result<Vec<&'static str>, Fail> {
+    let mut words = Vec::from_slice(alloc, &["type", "-c", "/c", "--name-only", "--cost"])?;
+    words.extend_from_slice(&NAMES)?;
+    Ok(words)
 }
 
 /// Of many names each has the line that it has in a run of its own: where costs are told nothing is read back.
 fn cost_alike(rt: &impl Abort, alloc: Global, cache: &[u8]) -> Result<(), Fail> {
+    let words = of_all_names(alloc)?;
     let entries = [("/c", Entry::Bytes(cache))];
-    let mut files = Shelf { entries: &entries };
-    let (mut apart, mut out, mut err) = (Vec::new(alloc), Vec::new(alloc), Vec::new(alloc));
-    let mut words = Vec::new(alloc);
-    for word in ["type", "-c", "/c", "--name-only", "--cost"] {
-        words.push(word)?;
-    }
-    for &name in &NAMES {
-        let alone = ["type", "-c", "/c", "--name-only", "--cost", name];
-        let status = ran(alloc, &alone, &mut files, &mut apart, &mut err);
-        alike(rt, "status", status, 0);
-        words.push(name)?;
-    }
-    let status = ran(alloc, &words, &mut files, &mut out, &mut err);
-    alike(rt, "status", status, 0);
-    alike(rt, "said", err.as_slice(), b"");
-    alike(rt, "printed", out.as_slice(), apart.as_slice());
+    let found = ended(alloc, &words, &mut Shelf { entries: &entries });
+    alike(rt, "status", found.status, 0);
+    alike(rt, "said", found.err.as_slice(), b"");
+    let apart = apart(rt, alloc, cache);
+    alike(rt, "printed", found.out.as_slice(), apart.as_slice());
     Ok(())
 }
 
 #[test]
 fn many_names_cost_alike(rt: HostRuntime) -> Result<(), Fail> {
     let alloc = rt.alloc();
-    let few = of_rules(alloc, FEW_RULES)?;
+    let few = cache_of(alloc, FEW_RULES)?;
     alike(&rt, "no room", few.len() < 64 + 2 + 64 + 3, true);
     cost_alike(&rt, alloc, &few)?;
-    let more = of_rules(alloc, MORE_RULES)?;
+    let more = cache_of(alloc, MORE_RULES)?;
     alike(&rt, "room", 64 + 2 + 64 + 3 <= more.len(), true);
     cost_alike(&rt, alloc, &more)
 }

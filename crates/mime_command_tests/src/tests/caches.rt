@@ -10,8 +10,8 @@ mod files;
 mod output;
 mod prepared;
 
-use crate::Entry;
-use crate::tests::ran::{Said, says_over};
+use crate::tests::ran::says_over;
+use mime_fakes::{Entry, Said};
 use mime_samples::caches::SAMPLE;
 use std::alloc::Global;
 use std::process::Abort;

@@ -1,7 +1,7 @@
 //! Files in memory that tell what is stored, and that none can be replaced.
 
 ghost use Rattle.std.specs.Prelude.{◌≡◌};
-ghost use Rattle.mime_tool_tests.specs.Shelf.{entry_in, stored_at};
+ghost use Rattle.mime_fakes.specs.Shelf.{entry_in, stored_at};
 
 use mime_base::OutOfMemory;
 use mime_lookup::{Content, ReadFault};
@@ -34,7 +34,7 @@ pub enum Page<'a> {
 
 impl Read for Page<'_> {
     ghost use Rattle.std.specs.Prelude.{Some};
-    ghost use Rattle.mime_tool_tests.specs.Shelf.{left_of};
+    ghost use Rattle.mime_fakes.specs.Shelf.{left_of};
 
     ghost remaining = { λ page. Some (left_of page) };
 
@@ -47,7 +47,7 @@ impl Read for Page<'_> {
 }
 
 impl Content for Page<'_> {
-    ghost use Rattle.mime_tool_tests.specs.Shelf.{health_of};
+    ghost use Rattle.mime_fakes.specs.Shelf.{health_of};
 
     ghost health = { health_of };
 

@@ -1,0 +1,5 @@
+mod caches;
+mod faults;
+mod listed;
+mod ran;
+mod texts;

@@ -1,0 +1,2 @@
+pub mod Drawer
+pub mod Shelf
