@@ -10,15 +10,15 @@
 mod disk;
 mod drawer;
 mod failing;
-mod ran;
 mod reader;
+mod runs;
 mod shelf;
 mod slate;
 
 pub use disk::{Disk, Opened};
 pub use drawer::{Drawer, Sheet};
 pub use failing::{FailingDrawer, FailingFiles, FailingShelf, FailingSink};
-pub use ran::{Outcome, Said, UNSET, ended, ended_by, in_environment, ran};
 pub use reader::{Script, Step};
+pub use runs::{Outcome, Said, UNSET, ended, ended_by, in_environment, ran};
 pub use shelf::{Entry, Page, Shelf};
 pub use slate::Slate;
