@@ -1,7 +1,10 @@
 -- What is read back of a cache in a run, and what is paid before.
-use Rattle.std.specs.Prelude.{◌≡◌, ℕ, ◌+◌, ◌/◌, Bool, true, false, List, Option, Some, None, IfSome, length, nat_le}
+use Rattle.std.specs.Prelude.{◌≡◌, ℕ, ◌+◌, ◌-◌, ◌/◌, Bool, true, false, List, Option, Some, None, IfSome, length, min, nat_le}
+use Rattle.mime_base.specs.Meter.{raised}
 use Rattle.mime_lookup.specs.declared.order.Order.TheVariants.{ContentOnly}
 use Rattle.mime_tool.specs.LineSteps.{bytes_in, tells_cost}
+use Rattle.mime_tool.specs.declared.line.Outcome.{Outcome}
+use Rattle.mime_tool.specs.declared.line.Outcome.TheVariants as outcome
 use Rattle.mime_tool.specs.declared.preparing.payments.Due.{Due}
 use Rattle.mime_tool.specs.declared.preparing.payments.Due.TheVariants as due
 use Rattle.mime_tool.specs.declared.preparing.payments.Part.{Part}
@@ -10,11 +13,37 @@ use Rattle.mime_tool.specs.declared.preparing.payments.Payments.{Payments}
 use Rattle.mime_tool.specs.declared.line.lookup.Lookup.{Lookup}
 use Rattle.mime_tool.specs.declared.prepaid.Prepaid.{Prepaid}
 
--- what is paid before a part of a cache is read back: as many records as that may visit, and twice as many for magic, of which each takes
--- as long as two that a walk visits
+-- what is paid before a part of a cache is read back: as many records as that may visit, and some 2.4 times as many for magic, of
+-- which each takes as long as two that a walk visits, and more
 abbrev pub price : Part → List ℕ → ℕ
 price Names cache = 5 + length cache / 4 + length cache / 8
-price Magic cache = 2 + length cache / 8
+price Magic cache = 2 + length cache / 8 + length cache / 40
+
+-- what a content pays for magic: as many records as it visited, and, for being opened and read, 256 more, but no more than it visited
+abbrev pub content_payment : ℕ → ℕ
+content_payment visited = raised visited (min visited 256)
+
+-- so much more is paid for what is still to be prepared
+abbrev pub pays : ℕ → Option Prepaid → Option Prepaid
+pays visited (Some it) = Some (record it { paid = raised it.paid visited })
+pays visited None = None
+
+-- what a FILE that came to this pays: what it compared pays for an index, and the records that it visited for what names need; if its
+-- content was asked for bytes, that pays for lines, and its records but for the entries of the glob list for magic
+abbrev pub paid_by : Outcome → Bool → Payments → Payments
+paid_by (outcome.Typed kind cost) true payments = record payments {
+  index = pays cost.meter.bytes payments.index;
+  lines = pays 1 payments.lines;
+  names = pays cost.meter.nodes payments.names;
+  magic = pays (content_payment (cost.meter.nodes - payments.listed)) payments.magic;
+}
+paid_by (outcome.Typed kind cost) false payments = record payments {
+  index = pays cost.meter.bytes payments.index;
+  names = pays cost.meter.nodes payments.names;
+}
+paid_by outcome.CannotOpen asked payments = payments
+paid_by outcome.NameTooLong asked payments = payments
+paid_by outcome.CannotRead asked payments = payments
 
 -- nothing is paid for a part yet; where costs are told it is never read back
 abbrev pub owed_for : Part → List ℕ → Bool → Option Prepaid

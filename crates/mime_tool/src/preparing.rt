@@ -5,10 +5,11 @@
 //! alone.
 //!
 //! Of a cache what names need is read back, and the magic list, into an index of each. That is done once the answers of the run have
-//! visited as many records as reading back may visit, and twice as many for magic: for names all answers, and for magic those whose
-//! content was asked for bytes, also an empty one, less the entries of the glob list. So a run over few FILEs reads nothing back, nor does any that its cache
-//! answers at once. Each is read back once at most. Where memory is refused, or the cache spells no such list, FILEs are looked up by
-//! a walk as before. So they are where the cost of an answer is told, which is that of a walk.
+//! visited as many records as reading back may visit: for names all answers. For magic they have paid some 2.4 times as many: those whose
+//! content was asked for bytes, also an empty one, less the entries of the glob list; and each pays 256 more for being opened and read, but
+//! no more than it visited. So a run over few FILEs reads nothing back, nor does any that its cache answers at once. Each is read back
+//! once at most. Where memory is refused, or the cache spells no such list, FILEs are looked up by a walk as before. So they are where
+//! the cost of an answer is told, which is that of a walk.
 
 ghost use Rattle.std.specs.Prelude.{◌≡◌, ◌+◌, ◌≤◌, IfSome};
 ghost use Rattle.mime_tool.specs.LineSteps.{IsOfSource, LooksAlike, bytes_in, source_of, whole};

@@ -2,7 +2,7 @@
 
 ghost use Rattle.std.specs.Prelude.{◌≡◌, ◌*◌, ◌≤◌, None, IfSome, length};
 ghost use Rattle.mime_lookup.specs.declared.order.Order.TheVariants.{ContentOnly};
-ghost use Rattle.mime_tool.specs.Preparing.{AreOwed, TakesDue, is_due, owed_for};
+ghost use Rattle.mime_tool.specs.Preparing.{AreOwed, TakesDue, content_payment, is_due, owed_for, paid_by, pays};
 ghost use Rattle.mime_tool.specs.LineSteps.{bytes_in, tells_cost};
 
 use crate::line::{Data, Lookup, Outcome};
@@ -10,6 +10,9 @@ use crate::prepaid::Prepaid;
 use mime_base::{Counted, Meter};
 use mime_lookup::Order;
 use mime_view::Cache;
+
+/// How many records take as long to visit as it takes to open a content and to read it.
+const OPENING: u64 = 256;
 
 /// What of a cache is read back at once.
 #[derive(Clone, Copy)]
@@ -98,26 +101,22 @@ impl Payments {
     }
 
     /// Counts what a FILE visited: that pays for what names need, and for the magic list too, less the entries of the glob list, if its
-    /// content was asked for bytes. What was compared pays for an index, and a content that was asked for bytes, whether it has any, pays
-    /// for the magic of it.
+    /// content was asked for bytes, which it pays for besides. What was compared pays for an index, and a content that was asked for bytes,
+    /// whether it has any, pays for the magic of it.
     #[inline]
-    pub(crate) fn count(&mut self, outcome: &Outcome<'_>, asked: bool) {
+    pub(crate) fn count(&mut self, outcome: &Outcome<'_>, asked: bool)
+        // It pays what follows from what it came to, and whether its content was asked.
+        ensures { self.new ≡ paid_by outcome.now asked self.old }
+    {
         let Outcome::Typed(_, cost) = outcome else {
             return;
         };
-        if let Some(index) = &mut self.index {
-            index.pay(cost.meter.bytes);
-        }
-        if let Some(names) = &mut self.names {
-            names.pay(cost.meter.nodes);
-        }
+        pay(&mut self.index, cost.meter.bytes);
+        pay(&mut self.names, cost.meter.nodes);
         if asked {
-            if let Some(lines) = &mut self.lines {
-                lines.pay(1);
-            }
-            if let Some(magic) = &mut self.magic {
-                magic.pay(cost.meter.nodes.saturating_sub(self.listed));
-            }
+            pay(&mut self.lines, 1);
+            let visited = cost.meter.nodes.saturating_sub(self.listed);
+            pay(&mut self.magic, content_payment(visited));
         }
     }
 
@@ -169,9 +168,30 @@ fn owed_for(part: Part, bytes: &[u8], cost: bool) -> Option<Prepaid>
     let length = bytes.len() as u64;
     let price = match part {
         Part::Names => 5 + length / 4 + length / 8,
-        Part::Magic => 2 + length / 8,
+        Part::Magic => 2 + length / 8 + length / 40,
     };
     Some(Prepaid::new(price))
+}
+
+/// Pays so much for what is still to be made or read back.
+// Always inlined, as its caller is.
+#[inline(always)]
+fn pay(owed: &mut Option<Prepaid>, visited: u64)
+    ensures { owed.new ≡ pays visited owed.old }
+{
+    if let Some(prepaid) = owed {
+        prepaid.pay(visited);
+    }
+}
+
+/// What a content pays that visited so many records.
+// Always inlined: it is two steps.
+#[inline(always)]
+fn content_payment(visited: u64) -> u64
+    // For being opened and read it pays some more, but no more than it visited.
+    ensures { result ≡ content_payment visited }
+{
+    visited.saturating_add(visited.min(OPENING))
 }
 
 /// How many entries the glob list of a cache of these bytes has, where there is one.
